@@ -1,0 +1,11 @@
+pub mod Euclid
+pub mod Residue
+pub mod Busy
+pub mod Pair
+pub mod Search
+pub mod First
+pub mod Reading
+pub mod Walk
+pub mod Turns
+pub mod Runs
+pub mod Limits
