@@ -1,0 +1,5 @@
+pub mod Network
+pub mod Grid
+pub mod MeshRoutes
+pub mod Meshes
+pub mod MeshLaws
