@@ -20,9 +20,9 @@ detailText (Meeting instant held place) = codes " " ++ decimal instant ++ codes 
 -- the bytes of a line
 abbrev pub lineOf : Line → List ℕ
 lineOf (Clear tasks messages) = codes "CLEAR " ++ decimal tasks ++ codes " " ++ decimal messages ++ codes "\n"
-lineOf (Refused section at refusal) =
-    codes "REFUSED " ++ decimal section ++ codes " " ++ decimal at ++ codes " " ++ decimal (refusal .number) ++ codes " " ++ wordOf (refusal .number)
-    ++ detailText (refusal .detail) ++ codes "\n"
+lineOf (Refused told) =
+    codes "REFUSED " ++ decimal (told .section) ++ codes " " ++ decimal (told .«record») ++ codes " " ++ decimal (told .refusal .number) ++ codes " " ++ wordOf (told .refusal .number)
+    ++ detailText (told .refusal .detail) ++ codes "\n"
 
 -- the fault of a buffer of fewer than 64 bytes
 abbrev pub tooShort : BufferFault

@@ -16,7 +16,7 @@ use crate::put::put_u64;
 use crate::refusal::BufferFault;
 use crate::refusal::Detail;
 use crate::refusal::Line;
-use crate::refusal::Refusal;
+use crate::refusal::Told;
 use crate::words::word;
 
 // No line is longer, so a buffer of this length takes any.
@@ -62,21 +62,21 @@ fn put_detail(out: &mut [u8], at: usize, detail: Detail) -> usize
     }
 }
 
-fn put_refused(out: &mut [u8], section: u8, record: u16, refusal: Refusal) -> usize
+fn put_refused(out: &mut [u8], told: Told) -> usize
     requires { ⌜ 64 ≤ length (now out) ⌝ }
-    ensures end { λ r. ⌜ r ≡ length (lineOf (Line.Refused section «record» refusal)) ⌝ }
+    ensures end { λ r. ⌜ r ≡ length (lineOf (Line.Refused told)) ⌝ }
     ensures bound { λ r. ⌜ r ≤ 64 ⌝ }
-    ensures holds { λ _. ⌜ now (out .exit) ≡ written (now (out .entry)) 0 (lineOf (Line.Refused section «record» refusal)) ⌝ }
+    ensures holds { λ _. ⌜ now (out .exit) ≡ written (now (out .entry)) 0 (lineOf (Line.Refused told)) ⌝ }
 {
     let at = put(out, 0, b"REFUSED ");
-    let at = put_u8(out, at, section);
+    let at = put_u8(out, at, told.section);
     let at = put(out, at, b" ");
-    let at = put_u16(out, at, record);
+    let at = put_u16(out, at, told.record);
     let at = put(out, at, b" ");
-    let at = put_u8(out, at, refusal.number);
+    let at = put_u8(out, at, told.refusal.number);
     let at = put(out, at, b" ");
-    let at = put(out, at, word(refusal.number));
-    let at = put_detail(out, at, refusal.detail);
+    let at = put(out, at, word(told.refusal.number));
+    let at = put_detail(out, at, told.refusal.detail);
     put(out, at, b"\n")
 }
 
@@ -91,11 +91,7 @@ pub fn write_line(out: &mut [u8], line: Line) -> Result<usize, BufferFault>
     }
     let end = match line {
         Line::Clear { tasks, messages } => put_clear(out, tasks, messages),
-        Line::Refused {
-            section,
-            record,
-            refusal,
-        } => put_refused(out, section, record, refusal),
+        Line::Refused(told) => put_refused(out, told),
     };
     Ok(end)
 }
@@ -105,6 +101,7 @@ mod tests {
     use super::*;
     use crate::refusal::BufferFaultDebug;
     use crate::refusal::BufferFaultPartialEq;
+    use crate::refusal::Refusal;
     use std::test::*;
 
     #[test]
@@ -117,14 +114,14 @@ mod tests {
         check_eq(write_line(&mut out, clear), Ok(10))?;
         check_eq(&out[0..10], b"CLEAR 2 1\n".as_slice())?;
         check_eq(&out[10..64], [7u8; 54].as_slice())?;
-        let late = Line::Refused {
+        let late = Line::Refused(Told {
             section: 4,
             record: 0,
             refusal: Refusal {
                 number: 19,
                 detail: Detail::Slack(-1),
             },
-        };
+        });
         check_eq(write_line(&mut out, late), Ok(23))?;
         check_eq(&out[0..23], b"REFUSED 4 0 19 LATE -1\n".as_slice())
     }
@@ -132,7 +129,7 @@ mod tests {
     #[test]
     fn longest() -> Result<(), Fail> {
         let mut out = [7u8; 64];
-        let meets = Line::Refused {
+        let meets = Line::Refused(Told {
             section: 255,
             record: 65535,
             refusal: Refusal {
@@ -143,7 +140,7 @@ mod tests {
                     place: 65535,
                 },
             },
-        };
+        });
         check_eq(write_line(&mut out, meets), Ok(60))?;
         check_eq(
             &out[0..60],

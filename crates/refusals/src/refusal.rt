@@ -1,4 +1,6 @@
 // A refusal by its number and values, and what a verdict line tells.
+ghost use Rattle.refusals.specs.Told.{plain, told};
+ghost use mathlib.Core.Path.{_≡_};
 
 // What stands after the word: nothing, the least slack, or where a meeting is.
 #[derive(Clone, Copy, PartialEq, Eq, Debug)]
@@ -14,17 +16,43 @@ pub struct Refusal {
     pub detail: Detail,
 }
 
+// A refusal with the section and the record of a file that it names.
+#[derive(Clone, Copy, PartialEq, Eq, Debug)]
+pub struct Told {
+    pub section: u8,
+    pub record: u16,
+    pub refusal: Refusal,
+}
+
+impl Refusal {
+    // A refusal with no value beside it.
+    pub fn plain(number: u8) -> Refusal
+        ensures { λ r. ⌜ r ≡ plain number ⌝ }
+    {
+        Refusal {
+            number,
+            detail: Detail::Plain,
+        }
+    }
+}
+
+impl Told {
+    // A section has at most 65,535 records, so a larger place is told as the last.
+    pub fn new(section: u8, record: usize, refusal: Refusal) -> Told
+        ensures { λ r. ⌜ r ≡ told section «record» refusal ⌝ }
+    {
+        Told {
+            section,
+            record: record.min(65535) as u16,
+            refusal,
+        }
+    }
+}
+
 #[derive(Clone, Copy, PartialEq, Eq, Debug)]
 pub enum Line {
-    Clear {
-        tasks: u8,
-        messages: u8,
-    },
-    Refused {
-        section: u8,
-        record: u16,
-        refusal: Refusal,
-    },
+    Clear { tasks: u8, messages: u8 },
+    Refused(Told),
 }
 
 // The buffer has fewer than 64 bytes: refusal 27.
