@@ -1,0 +1,4 @@
+pub mod Firsts
+pub mod Readings
+pub mod Finds
+pub mod Pairs

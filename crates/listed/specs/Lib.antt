@@ -1,0 +1,5 @@
+pub mod Records
+pub mod Sound
+pub mod Setting
+pub mod SetRecords
+pub mod Told
