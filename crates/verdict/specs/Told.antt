@@ -1,0 +1,22 @@
+-- Section, record and refusal of each fault of a plan file, and the line of a verdict. Assumes nothing.
+use Prim.Native.Nat.{ℕ, min}
+use Rattle.std.specs.declared.result.Result.{Result}
+use Rattle.std.specs.declared.result.Result.the-variants.{Ok, Err}
+use Rattle.refusals.specs.Told.{plain, told}
+use Rattle.refusals.specs.declared.refusal.Line.{Line}
+use Rattle.refusals.specs.declared.refusal.Line.the-variants.{Clear, Refused}
+use Rattle.refusals.specs.declared.refusal.Told.{Told}
+use Rattle.listed.specs.Told.{set-told}
+use Rattle.plan.specs.Told.{load-told}
+use Rattle.verdict.specs.declared.fault.FileFault.{FileFault}
+use Rattle.verdict.specs.declared.fault.FileFault.the-variants.{Extra, Fabric, Load}
+
+abbrev pub file-told : FileFault → Told
+file-told Extra = told 5 0 (plain 25)
+file-told (Fabric e) = set-told e
+file-told (Load e) = load-told e
+
+-- a plan holds at most 64 tasks and 128 messages, so the counts fit a byte
+abbrev pub verdict-line : Result (ℕ × ℕ) FileFault → Line
+verdict-line (Ok p) = Clear (min (p .0) 255) (min (p .1) 255)
+verdict-line (Err e) = Refused (file-told e)
