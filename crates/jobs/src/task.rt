@@ -26,7 +26,7 @@ pub fn timely(t: &Task) -> bool
 }
 
 // The instants at which a task runs.
-pub fn hold_of(t: &Task) -> Option<Hold>
+pub(crate) fn hold_of(t: &Task) -> Option<Hold>
     ensures { λ r. ⌜ mapped span r ≡ task-hold (now (t .entry)) ⌝ }
 {
     Hold::new(u64::from(t.phase), t.period, t.width)

@@ -65,14 +65,17 @@ links-long rs k r here =
 -- the answers of a record that was found
 module _ (n : ℕ) (ls rs : List ℕ) (r : Route) (stands : Stands rs r)
     (routed : (k : ℕ) → k < length rs / 16 → route-good n ls (route-prior rs k) (route-at rs k) ≡ true) where
+  -- its length is at most 12
   pub found-short : r .length ≤ 12
   found-short =
       let k = stands .place in
       good-parts n ls (route-prior rs k) r (subst (λ o. route-good n ls (route-prior rs k) o ≡ true) (stands .here) (routed k (stands .counted))) .short
 
+  -- it has as many links as its length says
   pub found-length : length (route-links r) ≡ r .length
   found-length = simp length-take (omega (arith, found-short, links-long rs (stands .place) r (stands .here)))
 
+  -- its link at a place
   pub found-place : (i : ℕ) → i < r .length → nth (route-links r) i ≡ Some (getD (r .links) i 0)
   found-place i h = nth-getD (route-links r) i 0 (omega (arith, found-length)) ∙ ap Some (getD-take (r .length) (r .links) i 0 h)
 

@@ -30,6 +30,7 @@ module _ {E : Type 0} (f : ℕ → Option E) where
   pub first-all : (k n : ℕ) → n ≤ k → first-fault f k (n - k) ≡ None
   first-all k n h = let e : n - k ≡ 0 = omega arith in rw e
 
+  -- of two without a fault neither has one
   front-none : (o p : Option E) → either o p ≡ None → (o ≡ None) × (p ≡ None)
   front-none None p e = (refl, e)
   front-none (Some x) p e = let z : _≡_ {A = ℕ} 0 1 = cc in absurd (omega arith)

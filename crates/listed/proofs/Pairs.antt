@@ -1,6 +1,6 @@
 -- The records of a listed fabric ascend, so each pair of nodes has one record at most; and what a file sets is of its records. Assumes nothing.
 use mathlib.Core.Path.{_≡_, refl, sym, ap, subst, _∙_}
-use mathlib.Core.Bool.{Bool, true, false, cond, _&&_, _||_}
+use mathlib.Core.Bool.{true, false, cond, _&&_}
 use mathlib.Core.List.{List, []}
 use mathlib.Core.Logic.{_⊎_, inl, inr, ⊎-elim}
 use Prim.Native.Nat.{ℕ, zero, suc, _+_, _-_, _/_, _<_}
@@ -16,14 +16,11 @@ use Rattle.std.specs.declared.result.Result.the-variants.{Ok, Err}
 use Rattle.records.specs.declared.record.Link.{Link}
 use Rattle.records.specs.declared.record.Route.{Route}
 use Rattle.records.specs.declared.head.Head.{Head as FileHead}
-use Rattle.records.specs.Forms.{routeOf}
-use Rattle.records.specs.Sections.{recordBytes}
-use Rattle.listed.specs.declared.faults.SetFault.{SetFault}
 use Rattle.listed.specs.declared.faults.SetFault.the-variants.{Head, Links, Routes}
-use Rattle.listed.specs.Records.{link-count, link-at, route-count, route-at, route-prior, link-good, route-links, route-above, route-good, seek, listed-link, listed-route}
-use Rattle.listed.specs.Setting.{Setting, network, within, then, unless, listed-head, section-read, links-fault, routes-fault, setting-read}
+use Rattle.listed.specs.Records.{link-at, route-count, route-at, route-prior, link-good, route-links, route-above, route-good, seek, listed-route}
+use Rattle.listed.specs.Setting.{Setting, within, then, unless, listed-head, section-read, links-fault, routes-fault, routes-set, links-set, head-set}
 use Rattle.listed.specs.SetRecords.{OfRecords, SetRecords}
-use Rattle.listed.specs.Sound.{guarded, Good-parts, good-parts}
+use Rattle.listed.specs.Sound.{Good-parts, good-parts}
 use Rattle.listed.proofs.Finds.{seek-here, seek-past, seek-none, route-found}
 use Rattle.listed.proofs.Firsts.{links-good, routes-good}
 
@@ -31,6 +28,7 @@ use Rattle.listed.proofs.Firsts.{links-good, routes-good}
 abbrev pub Before : Route → Route → Type 0
 Before q r = (q .from < r .from) ⊎ ((q .from ≡ r .from) × (q .to < r .to))
 
+-- three in a row
 before-more : (p q r : Route) → Before p q → Before q r → Before p r
 before-more p q r (inl a) (inl b) = inl (omega arith)
 before-more p q r (inl a) (inr b) = inl (omega (arith, b .0))
@@ -42,6 +40,7 @@ before-apart : (q r : Route) → Before q r → q .from ≡ r .from → q .to �
 before-apart q r (inl a) e f = omega arith
 before-apart q r (inr a) e f = omega (arith, a .1)
 
+-- what the test says
 above-before : (q r : Route) → route-above (Some q) r ≡ true → Before q r
 above-before q r h =
     ⊎-elim
@@ -56,12 +55,14 @@ some-link : (n : ℕ) (o : Option Link) → link-good n o ≡ true → (x : Link
 some-link n None h = let z : _≡_ {A = ℕ} 0 1 = cc in absurd (omega arith)
 some-link n (Some x) h = (x, refl)
 
+-- the same of a route, with what makes it good
 some-route : (n : ℕ) (ls : List ℕ) (prior o : Option Route) → route-good n ls prior o ≡ true → (r : Route) × (o ≡ Some r) × Good-parts n ls prior r
 some-route n ls prior None h = let z : _≡_ {A = ℕ} 0 1 = cc in absurd (omega arith)
 some-route n ls prior (Some r) h = (r, refl, good-parts n ls prior r h)
 
 module _ (n : ℕ) (ls rs : List ℕ)
     (routed : (k : ℕ) → k < length rs / 16 → route-good n ls (route-prior rs k) (route-at rs k) ≡ true) where
+  -- each place has a good record
   at-place : (k : ℕ) → k < route-count rs → (r : Route) × (route-at rs k ≡ Some r) × Good-parts n ls (route-prior rs k) r
   at-place k h = some-route n ls (route-prior rs k) (route-at rs k) (routed k h)
 
@@ -82,6 +83,7 @@ module _ (n : ℕ) (ls rs : List ℕ)
       let e : k + 1 + d + 1 ≡ k + 1 + suc d = omega arith in
       before-more q m r (further d k q m (omega arith) here mid) (next (k + 1 + d) m r (omega arith) mid (ap (route-at rs) e ∙ there))
 
+  -- the records ascend
   ordered : (j k : ℕ) (q r : Route) → j < k → k < route-count rs → route-at rs j ≡ Some q → route-at rs k ≡ Some r → Before q r
   ordered j k q r low h here there =
       let e : j + 1 + (k - (j + 1)) ≡ k = omega arith in
@@ -97,6 +99,7 @@ module _ (n : ℕ) (ls rs : List ℕ)
       seek-past rs (r .from) (r .to) j (route-count rs) q (omega arith) there (before-apart q r (ordered j k q r (omega arith) h there here))
       ∙ walk d (j + 1) k r (omega arith) h here
 
+  -- the search for a record's pair finds the record
   pub seek-found : (k : ℕ) (r : Route) → k < route-count rs → route-at rs k ≡ Some r → seek rs (r .from) (r .to) 0 (route-count rs) ≡ Some (route-links r)
   seek-found k r h here =
       let whole : route-count rs ≡ route-count rs - 0 = omega arith in
@@ -109,6 +112,7 @@ module _ (n : ℕ) (ls rs : List ℕ)
       let (q, there, _) = at-place j (omega arith) in
       seek-past rs a b j (route-count rs) q (omega arith) there (absent j q there) ∙ miss d (j + 1) a b (omega arith) absent
 
+  -- the search for a pair without a record finds none
   pub seek-absent : (a b : ℕ) → ((k : ℕ) (r : Route) → route-at rs k ≡ Some r → r .from ≡ a → r .to ≡ b → ⊥) → seek rs a b 0 (route-count rs) ≡ None
   seek-absent a b absent =
       let whole : route-count rs ≡ route-count rs - 0 = omega arith in
@@ -135,6 +139,7 @@ then-parts : {T U E : Type 0} (r : Result T E) (f : T → Result U E) (v : U) �
 then-parts (Ok x) f v h = (x, h)
 then-parts (Err e) f v h = let z : _≡_ {A = ℕ} 0 1 = cc in absurd (omega arith)
 
+-- an answer where nothing was found wrong
 unless-parts : {T E : Type 0} (o : Option E) (r : Result T E) (v : T) → unless o r ≡ Ok v → (o ≡ None) × (r ≡ Ok v)
 unless-parts None r v h = (refl, h)
 unless-parts (Some e) r v h = let z : _≡_ {A = ℕ} 0 1 = cc in absurd (omega arith)
@@ -151,18 +156,25 @@ faultless s nl nr =
       others = route-none (s .nodes) (s .links) (s .routes) routed;
     }
 
--- what a file sets has no fault
+-- so is one that the checks of the routes let through
+set-last : (h : FileHead) (ls : List ℕ) (rs : List ℕ × List ℕ) (s : Setting) (rest : List ℕ) → links-fault (h .x) ls ≡ None → routes-set h ls rs ≡ Ok (s, rest) → OfRecords s
+set-last h ls rs s rest nl e =
+    let made : Setting = record { nodes = h .x; delay = h .delay; links = ls; routes = rs .0 } in
+    let (nr, is) = unless-parts (routes-fault (h .x) ls (rs .0)) (Ok (made, rs .1)) (s, rest) e in
+    let both : _≡_ {A = Setting × List ℕ} (made, rs .1) (s, rest) = cc in
+    let same : made ≡ s = ap (λ v. v .0) both in
+    subst OfRecords same (faultless made nl nr)
+
+-- and one that the checks of the links let through
+set-next : (h : FileHead) (ls : List ℕ × List ℕ) (s : Setting) (rest : List ℕ) → links-set h ls ≡ Ok (s, rest) → OfRecords s
+set-next h ls s rest e =
+    let (nl, after) = unless-parts (links-fault (h .x) (ls .0)) (then (within Routes (section-read 16 256 (ls .1))) (routes-set h (ls .0))) (s, rest) e in
+    let (rs, is) = then-parts (within Routes (section-read 16 256 (ls .1))) (routes-set h (ls .0)) (s, rest) after in
+    set-last h (ls .0) rs s rest nl is
+
+-- what a file sets is of its records
 pub set-records : SetRecords
 set-records file s rest read =
-    let made : FileHead × List ℕ → List ℕ × List ℕ → List ℕ × List ℕ → Setting = λ h ls rs. record { nodes = h .0 .x; delay = h .0 .delay; links = ls .0; routes = rs .0 } in
-    let last : FileHead × List ℕ → List ℕ × List ℕ → List ℕ × List ℕ → Result (Setting × List ℕ) SetFault = λ h ls rs. unless (routes-fault (h .0 .x) (ls .0) (rs .0)) (Ok (made h ls rs, rs .1)) in
-    let middle : FileHead × List ℕ → List ℕ × List ℕ → Result (Setting × List ℕ) SetFault = λ h ls. then (within Routes (section-read 16 256 (ls .1))) (last h ls) in
-    let first : FileHead × List ℕ → List ℕ × List ℕ → Result (Setting × List ℕ) SetFault = λ h ls. unless (links-fault (h .0 .x) (ls .0)) (middle h ls) in
-    let (h, e1) = then-parts (within Head (listed-head file)) (λ h. then (within Links (section-read 2 128 (h .1))) (first h)) (s, rest) read in
-    let (ls, e2) = then-parts (within Links (section-read 2 128 (h .1))) (first h) (s, rest) e1 in
-    let (nl, e3) = unless-parts (links-fault (h .0 .x) (ls .0)) (middle h ls) (s, rest) e2 in
-    let (rs, e4) = then-parts (within Routes (section-read 16 256 (ls .1))) (last h ls) (s, rest) e3 in
-    let (nr, e5) = unless-parts (routes-fault (h .0 .x) (ls .0) (rs .0)) (Ok (made h ls rs, rs .1)) (s, rest) e4 in
-    let both : _≡_ {A = Setting × List ℕ} (made h ls rs, rs .1) (s, rest) = cc (e5) in
-    let same : made h ls rs ≡ s = ap (λ v. v .0) both in
-    subst OfRecords same (faultless (made h ls rs) nl nr)
+    let (h, body) = then-parts (within Head (listed-head file)) head-set (s, rest) read in
+    let (ls, is) = then-parts (within Links (section-read 2 128 (h .1))) (links-set (h .0)) (s, rest) body in
+    set-next (h .0) ls s rest is

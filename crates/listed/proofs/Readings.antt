@@ -1,5 +1,5 @@
 -- What reading the head and a section answers. Assumes nothing.
-use mathlib.Core.Path.{_≡_, refl, sym, ap, subst, _∙_}
+use mathlib.Core.Path.{_≡_, refl, sym, ap, _∙_}
 use mathlib.Core.Bool.{Bool, true, false, cond, _&&_, _||_}
 use mathlib.Core.List.{List}
 use Prim.Native.Nat.{ℕ, _+_, _*_, _≤_}
@@ -8,7 +8,7 @@ use native.Mathlib.Omega.{arith}
 use lib.Dec.{ltb, leb, eqb}
 use lib.ListN.{length, take, drop, length-take}
 use Rattle.std.proofs.shelf.Bits.{mul-le}
-use Rattle.std.proofs.shelf.Tests.{and-parts, and-from, eq-eqb, eqb-true, leb-true, ltb-false, cond-true, cond-false}
+use Rattle.std.proofs.shelf.Tests.{and-parts, and-from, eq-eqb, leb-true, ltb-false, cond-true, cond-false}
 use Rattle.std.specs.declared.option.Option.the-variants.{Some, None}
 use Rattle.std.specs.declared.result.Result.{Result}
 use Rattle.std.specs.declared.result.Result.the-variants.{Ok, Err}
@@ -18,7 +18,7 @@ use Rattle.records.specs.declared.head.HeadFault.the-variants.{Short as HeadSho
 use Rattle.records.specs.Bytes.{be}
 use Rattle.records.specs.Head.{headAt, headRead, headKnown}
 use Rattle.records.specs.Sections.{fitting, countOf, cutOf}
-use Rattle.listed.specs.declared.faults.SectionFault.the-variants.{Short, Many}
+use Rattle.listed.specs.declared.faults.SectionFault.the-variants.{Short}
 use Rattle.listed.specs.Setting.{within, head-known, head-fits, listed-head, over, section-read}
 
 -- an answer that stands behind a test that had to come out false

@@ -1,10 +1,12 @@
 -- What setting a listed fabric from a file reads: the head, the links and the routes, or the first fault. Assumes nothing.
---   Setting         what a listed fabric is made of
---   listed-head     the head of a listed fabric
---   section-read    a section of at most so many records
---   link-fault, route-fault   what is wrong with a record
---   setting-read    all of it, in order
-use mathlib.Core.Bool.{Bool, true, false, cond, _&&_, not}
+--   Setting, network           what a listed fabric is made of, and what it means; alone: how it begins
+--   within, then, unless       one part after the other, up to the first fault
+--   either, first-fault        the first fault among records
+--   listed-head                the head of a listed fabric
+--   section-read               a section of at most so many records
+--   link-fault, route-fault    what is wrong with a record
+--   setting-read               all of it, in order, by head-set, links-set and routes-set
+use mathlib.Core.Bool.{Bool, false, cond, _&&_, not}
 use mathlib.Core.List.{List, []}
 use Prim.Native.Nat.{ℕ, zero, suc, _+_}
 use lib.Dec.{ltb, leb, eqb}
@@ -118,12 +120,19 @@ links-fault n ls = first-fault (link-fault n ls) 0 (link-count ls)
 abbrev pub routes-fault : ℕ → List ℕ → List ℕ → Option SetFault
 routes-fault n ls rs = first-fault (route-fault n ls rs) 0 (route-count rs)
 
+-- what is set where the routes have no fault, and the bytes that follow them
+abbrev pub routes-set : FileHead → List ℕ → List ℕ × List ℕ → Result (Setting × List ℕ) SetFault
+routes-set h ls rs =
+    unless (routes-fault (h .x) ls (rs .0)) (Ok (record { nodes = h .x; delay = h .delay; links = ls; routes = rs .0 }, rs .1))
+
+-- the routes are read where the links have no fault
+abbrev pub links-set : FileHead → List ℕ × List ℕ → Result (Setting × List ℕ) SetFault
+links-set h ls = unless (links-fault (h .x) (ls .0)) (then (within Routes (section-read 16 256 (ls .1))) (routes-set h (ls .0)))
+
+-- the links are read after the head
+abbrev pub head-set : FileHead × List ℕ → Result (Setting × List ℕ) SetFault
+head-set h = then (within Links (section-read 2 128 (h .1))) (links-set (h .0))
+
 -- what a file sets, and the bytes that follow its routes, or the first fault
 abbrev pub setting-read : List ℕ → Result (Setting × List ℕ) SetFault
-setting-read file =
-    then (within Head (listed-head file)) (λ h.
-    then (within Links (section-read 2 128 (h .1))) (λ ls.
-    unless (links-fault (h .0 .x) (ls .0))
-    (then (within Routes (section-read 16 256 (ls .1))) (λ rs.
-    unless (routes-fault (h .0 .x) (ls .0) (rs .0))
-    (Ok (record { nodes = h .0 .x; delay = h .0 .delay; links = ls .0; routes = rs .0 }, rs .1))))))
+setting-read file = then (within Head (listed-head file)) head-set

@@ -3,7 +3,7 @@ use mathlib.Core.Path.{_≡_, refl, sym, ap, subst, _∙_}
 use mathlib.Core.Bool.{Bool, true, false, cond, _&&_, not}
 use mathlib.Core.List.{List, [], _∷_}
 use mathlib.Core.Logic.{_⊎_, inl, inr, ⊎-elim}
-use Prim.Native.Nat.{ℕ, zero, suc, _+_, _*_, _/_, _<_, _≤_}
+use Prim.Native.Nat.{ℕ, zero, suc, _+_, _/_, _<_, _≤_}
 use native.Mathlib.Omega.{arith}
 use lib.Dec.{ltb, leb, eqb}
 use lib.ListN.{length, getD, length-take}
@@ -13,10 +13,10 @@ use Rattle.std.specs.declared.option.Option.{Option}
 use Rattle.std.specs.declared.option.Option.the-variants.{Some, None}
 use Rattle.records.specs.declared.record.Link.{Link}
 use Rattle.records.specs.declared.record.Route.{Route}
-use Rattle.records.specs.Forms.{linkOf, routeOf, routeAt}
+use Rattle.records.specs.Forms.{linkOf}
 use Rattle.records.specs.Sections.{recordBytes}
-use Rattle.fabric.specs.Network.{Network, Chain, Once, Lawful}
-use Rattle.listed.specs.Records.{link-count, link-at, route-count, route-at, route-prior, link-good, route-links, route-shape, route-names, hop, chain-good, member, once-good, route-leads, route-above, route-good, pick, seek, listed-link, listed-route, listed}
+use Rattle.fabric.specs.Network.{Chain, Once, Lawful}
+use Rattle.listed.specs.Records.{link-count, link-at, route-at, route-prior, link-good, route-links, route-shape, route-names, hop, chain-good, member, once-good, route-leads, route-above, route-good, pick, seek, listed-link, listed-route, listed}
 
 -- an answer that stands behind a test
 pub guarded : {X : Type 0} (t : Bool) (o : Option X) (v : X) → cond t o None ≡ Some v → (t ≡ true) × (o ≡ Some v)
@@ -42,6 +42,7 @@ chain-sound ls a (l ∷ xs) b h =
     let (x, is, leaves, onward) = hop-parts (link-at ls l) a (λ m. chain-good ls m xs b) h in
     (x .to, ap (mapped (λ y. (y .from, y .to))) is ∙ ap (λ m. Some (m, x .to)) leaves, chain-sound ls (x .to) xs b onward)
 
+-- a number at a place is a member
 member-at : (l : ℕ) (xs : List ℕ) (j : ℕ) → j < length xs → getD xs j 0 ≡ l → member l xs ≡ true
 member-at l [] j h e = absurd (omega arith)
 member-at l (x ∷ xs) zero h e = cond-true _ _ _ (eq-eqb x l e)
@@ -69,6 +70,7 @@ pub record Good-parts (n : ℕ) (ls : List ℕ) (prior : Option Route) (r : Rout
   pub leads : route-leads ls r ≡ true
   pub above : route-above prior r ≡ true
 
+-- they follow from the test
 pub good-parts : (n : ℕ) (ls : List ℕ) (prior : Option Route) (r : Route) → route-good n ls prior (Some r) ≡ true → Good-parts n ls prior r
 good-parts n ls prior r h =
     let p = and-parts (route-shape n r) (route-names (link-count ls) r && (route-leads ls r && route-above prior r)) h in
@@ -111,6 +113,7 @@ pick-cases (Some x) a b further r is =
     (λ (no' : t ≡ false). inr (sym (cond-false t (Some (route-links x)) further no') ∙ is))
     (cases-bool t)
 
+-- a search that answers has found a record of the pair
 pub seek-sound : (rs : List ℕ) (a b k n : ℕ) (r : List ℕ) → seek rs a b k n ≡ Some r → Found rs a b k n r
 seek-sound rs a b k zero r is = let z : _≡_ {A = ℕ} 0 1 = cc in absurd (omega arith)
 seek-sound rs a b k (suc n) r is =
@@ -130,6 +133,7 @@ module _ (n d : ℕ) (ls rs : List ℕ) (some : 1 ≤ n) (few : n ≤ 64) (slow 
     pub single : Once r
     pub long : length r ≤ 12
 
+  -- a found record keeps the laws
   record-good : (a b : ℕ) (r : List ℕ) → Found rs a b 0 (length rs / 16) r → Good a b r
   record-good a b r f =
       let x = f .route in
@@ -145,6 +149,7 @@ module _ (n d : ℕ) (ls rs : List ℕ) (some : 1 ≤ n) (few : n ≤ 64) (slow 
         long = omega (arith, cut, p .short, ap length (f .links));
       }
 
+  -- every route keeps them, the empty ones too
   parts : (a b : ℕ) (r : List ℕ) → listed-route n rs a b ≡ Some r → (a < n) × (b < n) × Good a b r
   parts a b r is =
       let g = guarded (ltb a n && ltb b n) (cond (eqb a b) (Some []) (seek rs a b 0 (length rs / 16))) r is in

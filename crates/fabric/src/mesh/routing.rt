@@ -142,20 +142,3 @@ pub fn mesh_routes_stand() -> u8
 {
     0
 }
-
-#[cfg(test)]
-mod tests {
-    use super::*;
-    use std::test::*;
-
-    #[test]
-    fn three_by_three() -> Result<(), Fail> {
-        let Ok(mesh) = Mesh::new(3, 3, 0) else {
-            return Err(Fail::new("size"));
-        };
-        check_eq(mesh.route_len(0, 5), Some(3))?;
-        check_eq(mesh.route_link(0, 5, 2), Some(10))?;
-        check_eq(mesh.route_link(5, 0, 0), Some(21))?;
-        check_eq(mesh.route_link(5, 0, 3), None)
-    }
-}

@@ -1,4 +1,5 @@
-use mathlib.Core.Path.{_≡_, sym}
+use mathlib.Core.Path.{_≡_}
+use native.Mathlib.Omega.{arith}
 use borrow.Author.Needs.{needs}
 use Rattle.std.specs.declared.option.Option.the-variants.{None}
 use Rattle.listed.specs.Setting.{links-fault, routes-fault}
@@ -15,4 +16,4 @@ ghost-self c =
     let limits = head-limits (c .args .file .now) h (c .in-Continue-head .body .now) (c .in-Continue-head .ensures tt) in
     let linked : links-fault (h .x) ls ≡ None = search needs in
     let routed : routes-fault (h .x) ls rs ≡ None = search needs in
-    ((limits .0, limits .1), (limits .2, (c .in-Ok .ensures tt .few, (links-good (h .x) ls linked, (routes-good (h .x) ls rs routed, tt)))))
+    ((limits .0, limits .1), (limits .2, (omega (arith, c .in-Ok .ensures tt .few), (links-good (h .x) ls linked, (routes-good (h .x) ls rs routed, tt)))))

@@ -1,10 +1,8 @@
 use mathlib.Core.Path.{_≡_, sym, ap, _∙_}
-use mathlib.Core.Bool.{Bool, true, false, _&&_, cond, not}
+use mathlib.Core.Bool.{true, _&&_, not}
 use native.Mathlib.Omega.{arith}
-use Prim.Native.Nat.{_+_, _*_, _<_, _≤_}
-use lib.Dec.{ltb, eqb}
-use lib.ListN.{length, drop, getD}
-use borrow.Author.Needs.{needs}
+use Prim.Native.Nat.{_+_}
+use lib.ListN.{drop, getD}
 use Rattle.std.proofs.shelf.Lists.{at-drop-more, at-drop-all, take-rest}
 use Rattle.std.proofs.shelf.Ways.{tells}
 use Rattle.listed.specs.Records.{member, once-good}

@@ -7,7 +7,7 @@ use lib.ListN.{drop, getD}
 use borrow.Author.Needs.{needs}
 use Rattle.std.proofs.shelf.Lists.{at-drop-more, at-drop-all}
 use Rattle.std.proofs.shelf.Tests.{eq-eqb, ne-eqb, and-left}
-use Rattle.std.specs.declared.option.Option.the-variants.{Some, None}
+use Rattle.std.specs.declared.option.Option.the-variants.{None}
 use Rattle.listed.specs.Records.{link-at, hop, chain-good}
 use Rattle.listed.proofs.checks.follows.Needs as need
 
