@@ -2,6 +2,7 @@
 // Prints the verdict line on each, or the refusal of the buffer.
 ghost use Prim.Native.Nat.{_<_, _≤_};
 ghost use lib.ListN.{length};
+use refusals::words::word;
 use std::error::AnyError;
 use std::io::BufRead;
 use std::io::BufReader;
@@ -45,7 +46,12 @@ fn show<W: Write>(out: &mut W, room: usize, text: &str) -> Result<(), AnyError> 
     let line = &mut buffer[0..room.min(BUFFER_ROOM)];
     match judge(&file[0..size], line) {
         Ok(end) => out.write_all(&line[0..end])?,
-        Err(_) => out.write_all(b"27 BUFFER\n")?,
+        Err(fault) => {
+            let number = fault.told().number;
+            write!(out, "{number} ")?;
+            out.write_all(word(number))?;
+            out.write_all(b"\n")?;
+        }
     }
     Ok(())
 }

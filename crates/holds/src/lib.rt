@@ -4,6 +4,7 @@ ghost use Rattle.holds.specs.First.{First-meeting, Meeting-bound};
 ghost use Rattle.holds.specs.Gcd.{Gcd-is-greatest};
 ghost use Rattle.holds.specs.Slack.{Always-read, Least-whole, Slack-is-least};
 ghost use Rattle.holds.specs.Span.{Gap-is-difference, Pair-test};
+ghost use mathlib.Core.Path.{_≡_};
 
 mod deliveries;
 mod divisor;
@@ -22,6 +23,7 @@ pub use slack::least_slack;
 
 // The formulas say what the instants say.
 pub fn formulas_stand() -> u8
+    ensures answer { λ r. ⌜ r ≡ 0 ⌝ }
     ensures divisor { λ _. ⌜ Gcd-is-greatest ⌝ }
     ensures pair { λ _. ⌜ Pair-test ⌝ }
     ensures difference { λ _. ⌜ Gap-is-difference ⌝ }

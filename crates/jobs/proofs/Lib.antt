@@ -1,2 +1,4 @@
 pub mod Meets
 pub mod Walks
+pub mod Slacks
+pub mod Limits

@@ -2,7 +2,7 @@
 use mathlib.Core.List.{List, []}
 use Prim.Native.Nat.{ℕ}
 use Rattle.std.specs.declared.option.Option.{Option}
-use Rattle.records.specs.Named.{named, add}
+use Rattle.records.specs.Named.{named, add, without}
 use Rattle.records.specs.declared.record.Task.{Task}
 use Rattle.records.specs.declared.record.Message.{Message}
 use Rattle.fabric.specs.Network.{Network}
@@ -41,3 +41,10 @@ with-task js t = record { tasks = add task-name t (js .tasks); messages = js .me
 
 abbrev pub with-message : Jobs → Message → Jobs
 with-message js m = record { tasks = js .tasks; messages = add message-name m (js .messages) }
+
+-- one job less, by its name
+abbrev pub without-task : Jobs → ℕ → Jobs
+without-task js n = record { tasks = without task-name n (js .tasks); messages = js .messages }
+
+abbrev pub without-message : Jobs → ℕ → Jobs
+without-message js n = record { tasks = js .tasks; messages = without message-name n (js .messages) }

@@ -5,3 +5,6 @@ pub mod Reading
 pub mod Ways
 pub mod Rules
 pub mod Numbers
+pub mod Drops
+pub mod Slacks
+pub mod Stand

@@ -49,20 +49,20 @@ meetings name [] ys = []
 meetings name (x ∷ xs) ys = map (met name x) ys ++ meetings name xs ys
 
 -- a held job, by its name and what it takes
-pub record Holder : Type 0 where
+pub record HeldJob : Type 0 where
   pub name : ℕ
   pub takes : List Take
 
-abbrev pub all-meetings : List Take → List Holder → List (Option Meeting)
+abbrev pub all-meetings : List Take → List HeldJob → List (Option Meeting)
 all-meetings own [] = []
 all-meetings own (h ∷ hs) = meetings (h .name) own (h .takes) ++ all-meetings own hs
 
 -- the first meeting with any of those held
-abbrev pub first-met : List Take → List Holder → Option Meeting
+abbrev pub first-met : List Take → List HeldJob → Option Meeting
 first-met own held = earliest-from None (all-meetings own held)
 
-abbrev pub task-holder : Task → Holder
-task-holder t = record { name = t .name; takes = task-takes t }
+abbrev pub held-task : Task → HeldJob
+held-task t = record { name = t .name; takes = task-takes t }
 
-abbrev pub message-holder : Setting → List Task → Message → Holder
-message-holder g ts m = record { name = m .name; takes = message-takes g ts m }
+abbrev pub held-message : Setting → List Task → Message → HeldJob
+held-message g ts m = record { name = m .name; takes = message-takes g ts m }

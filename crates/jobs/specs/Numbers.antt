@@ -8,6 +8,8 @@ use Rattle.jobs.specs.declared.fault.TaskFault.{TaskFault}
 use Rattle.jobs.specs.declared.fault.TaskFault.the-variants as task-fault
 use Rattle.jobs.specs.declared.fault.MessageFault.{MessageFault}
 use Rattle.jobs.specs.declared.fault.MessageFault.the-variants as message-fault
+use Rattle.jobs.specs.declared.fault.DropFault.{DropFault}
+use Rattle.jobs.specs.declared.fault.DropFault.the-variants as drop-fault
 
 -- a refusal with the first meeting: its instant, the held name and the place
 abbrev pub meets : ℕ → Meeting → Refusal
@@ -28,3 +30,7 @@ message-told message-fault.NoRoute = plain 17
 message-told message-fault.Full = plain 18
 message-told (message-fault.Late v) = record { number = 19; detail = detail.Slack v }
 message-told (message-fault.Meets m) = meets 20 m
+
+abbrev pub drop-told : DropFault → Refusal
+drop-told drop-fault.Unknown = plain 21
+drop-told drop-fault.InUse = plain 22

@@ -27,10 +27,13 @@ slack-of None r = None
 slack-of (Some f) None = None
 slack-of (Some f) (Some r) = Some (least-slack f r)
 
+-- the least slack of packets that leave first at start, over so many links, for a reader
+abbrev pub slack-over : (start links hop width kind period : ℕ) → Option Span → Option ℤ
+slack-over start links hop width kind period reader = slack-of (flowing (arrival start links hop width) (due kind period) period) reader
+
 -- the least slack of a message from s to d over so many links
 abbrev pub message-slack : ℕ → Task → Task → Message → ℕ → Option ℤ
-message-slack hop s d m links =
-    slack-of (flowing (arrival (leaves s m) links hop (m .width)) (due (m .kind) (s .period)) (s .period)) (task-hold d)
+message-slack hop s d m links = slack-over (leaves s m) links hop (m .width) (m .kind) (s .period) (task-hold d)
 
 -- that slack where it is below 0
 abbrev pub lateness : Option ℤ → Option ℤ

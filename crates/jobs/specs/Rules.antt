@@ -19,7 +19,7 @@ use Rattle.jobs.specs.declared.fault.MessageFault.{MessageFault}
 use Rattle.jobs.specs.declared.fault.MessageFault.the-variants as message-fault
 use Rattle.jobs.specs.Jobs.{Setting, Jobs, task-name, message-name, task-named, with-task, with-message}
 use Rattle.jobs.specs.Takes.{task-takes, packet-takes}
-use Rattle.jobs.specs.Meetings.{first-met, task-holder, message-holder}
+use Rattle.jobs.specs.Meetings.{first-met, held-task, held-message}
 use Rattle.jobs.specs.Reading.{lateness, message-slack}
 
 -- ---- tasks
@@ -40,7 +40,7 @@ task-refusal nodes js t =
     (cond (leb nodes (t .core)) (Some task-fault.Core)
     (cond (not (task-timely t)) (Some task-fault.Times)
     (cond (leb 64 (length (js .tasks))) (Some task-fault.Full)
-    (mapped task-fault.Meets (first-met (task-takes t) (map task-holder (js .tasks)))))))
+    (mapped task-fault.Meets (first-met (task-takes t) (map held-task (js .tasks)))))))
 
 -- ---- messages
 
@@ -53,13 +53,13 @@ abbrev pub late : Option ℤ → Option MessageFault → Option MessageFault
 late None rest = rest
 late (Some v) rest = Some (message-fault.Late v)
 
--- the checks past the route, which is r
+-- the checks past the limits, over the route if the fabric has one
 abbrev pub routed-refusal : Setting → Jobs → Message → Task → Task → Option (List ℕ) → Option MessageFault
 routed-refusal g js m s d None = Some message-fault.NoRoute
 routed-refusal g js m s d (Some r) =
     cond (leb 128 (length (js .messages))) (Some message-fault.Full)
     (late (lateness (message-slack (g .network .delay) s d m (length r)))
-    (mapped message-fault.Meets (first-met (packet-takes g s d m) (map (message-holder g (js .tasks)) (js .messages)))))
+    (mapped message-fault.Meets (first-met (packet-takes g s d m) (map (held-message g (js .tasks)) (js .messages)))))
 
 -- the checks past the name, between the tasks that it names
 abbrev pub ends-refusal : Setting → Jobs → Message → Option Task → Option Task → Option MessageFault

@@ -31,7 +31,11 @@ pub record Take : Type 0 where
   pub place : Place
   pub hold : Option Span
 
--- run k of a task takes its core from phase + k * period on, for its width
+-- run k of a task starts at phase + k * period and lasts for its width
+abbrev pub task-span : Task → Span
+task-span t = record { start = t .phase; period = t .period; width = t .width }
+
+-- that span, where the numbers are a hold's
 abbrev pub task-hold : Task → Option Span
 task-hold t = spanned (t .phase) (t .period) (t .width)
 
@@ -45,10 +49,11 @@ task-takes t = task-take t ∷ []
 abbrev pub leaves : Task → Message → ℕ
 leaves s m = s .phase + s .width + m .delay
 
--- a packet takes each link of its route for its width, one hop delay after the link before
+-- a link, with a hold of it
 abbrev pub link-take : ℕ → Option Span → Take
 link-take l h = record { place = link l; hold = h }
 
+-- a packet takes each link of its route for its width, one hop delay after the link before
 abbrev pub along : ℕ → List ℕ → ℕ → ℕ → ℕ → List Take
 along hop [] start period width = []
 along hop (l ∷ ls) start period width = link-take l (spanned start period width) ∷ along hop ls (start + hop) period width

@@ -11,9 +11,9 @@ use Rattle.records.specs.declared.record.Message.{Message}
 use Rattle.jobs.specs.declared.stay.Stay.{Stay}
 use Rattle.jobs.specs.declared.way.Way.{Way}
 use lib.IntN.{ℤ}
-use Rattle.holds.specs.Held.{flowing, span}
+use Rattle.holds.specs.Held.{span}
 use Rattle.jobs.specs.Jobs.{Setting}
-use Rattle.jobs.specs.Reading.{arrival, due, slack-of}
+use Rattle.jobs.specs.Reading.{slack-over}
 use Rattle.jobs.specs.Takes.{Place, Take, leaves, on-route, task-hold}
 
 -- a stay on a kind of place
@@ -40,4 +40,4 @@ pub record IsWay (g : Setting) (s d : Task) (m : Message) (w : Way) : Type 0 whe
 
 -- the least slack of a message on its way to d
 abbrev pub way-slack : Way → Task → Message → Option ℤ
-way-slack w d m = slack-of (flowing (arrival (w .start) (w .links) (w .hop) (w .width)) (due (m .kind) (w .period)) (w .period)) (task-hold d)
+way-slack w d m = slack-over (w .start) (w .links) (w .hop) (w .width) (m .kind) (w .period) (task-hold d)

@@ -1,5 +1,5 @@
 // Why an offer is refused, and the number of each refusal.
-ghost use Rattle.jobs.specs.Numbers.{meets, message-told, task-told};
+ghost use Rattle.jobs.specs.Numbers.{drop-told, meets, message-told, task-told};
 ghost use mathlib.Core.Path.{_≡_};
 use refusals::refusal::Detail;
 use refusals::refusal::Refusal;
@@ -44,6 +44,15 @@ pub enum MessageFault {
     Late(i64),
     // it meets a held packet
     Meets(Meeting),
+}
+
+// Why a dropping is refused.
+#[derive(Clone, Copy, PartialEq, Eq, Debug)]
+pub enum DropFault {
+    // no job of this name is held
+    Unknown,
+    // a held message names the task
+    InUse,
 }
 
 impl Meeting {
@@ -91,6 +100,17 @@ impl MessageFault {
                 detail: Detail::Slack(slack),
             },
             MessageFault::Meets(meeting) => meeting.told(20),
+        }
+    }
+}
+
+impl DropFault {
+    pub fn told(self) -> Refusal
+        ensures { λ r. ⌜ r ≡ drop-told self ⌝ }
+    {
+        match self {
+            DropFault::Unknown => Refusal::plain(21),
+            DropFault::InUse => Refusal::plain(22),
         }
     }
 }

@@ -1,10 +1,12 @@
 // Messages: their limits, the links that their packets take and when, and their slack.
 ghost use Rattle.fabric.specs.Network.{route-place};
 ghost use Rattle.holds.specs.Held.{span, spanned};
-ghost use Rattle.jobs.specs.Jobs.{over, task-named};
-ghost use Rattle.jobs.specs.Meetings.{earliest-from, first-met, meetings, met, message-holder};
+ghost use Rattle.jobs.specs.Drops.{in-use, names-task};
+ghost use Rattle.jobs.specs.Jobs.{over};
+ghost use Rattle.jobs.specs.Meetings.{earliest-from, first-met, meetings, met, held-message};
 ghost use Rattle.jobs.specs.Reading.{arrival, lateness};
 ghost use Rattle.jobs.specs.Rules.{message-timely};
+ghost use Rattle.jobs.specs.Slacks.{slack-among};
 ghost use Rattle.jobs.specs.Takes.{link, message-takes};
 ghost use Rattle.jobs.specs.Ways.{IsWay, stay-take, takes-of, way-slack, way-takes};
 ghost use Rattle.std.specs.Options.{Cases as BySome, mapped};
@@ -23,7 +25,7 @@ use holds::Deliveries;
 use holds::Hold;
 use holds::least_slack;
 use records::named::TaskNamed;
-use records::named::find;
+use records::named::pick;
 use records::record::Message;
 use records::record::Task;
 
@@ -107,20 +109,12 @@ fn nearest<F: Fabric>(
     best
 }
 
-// The held task of a name.
-pub fn task_named(tasks: &[Task], name: u16) -> Option<Task>
-    ensures { λ r. ⌜ r ≡ task-named (now (tasks .entry)) name ⌝ }
-{
-    let at = find(tasks, name)?;
-    Some(tasks[at])
-}
-
 // The way of a held message, by the names of its tasks.
 fn way_of<F: Fabric>(fabric: &F, tasks: &[Task], m: &Message) -> Option<Way>
     ensures { λ r. ⌜ takes-of (over (F·Fabric .meaning) (now (fabric .entry))) r ≡ message-takes (over (F·Fabric .meaning) (now (fabric .entry))) (now (tasks .entry)) (now (m .entry)) ⌝ }
 {
-    let source = task_named(tasks, m.source)?;
-    let destination = task_named(tasks, m.destination)?;
+    let source = pick(tasks, m.source)?;
+    let destination = pick(tasks, m.destination)?;
     way_between(fabric, &source, &destination, m)
 }
 
@@ -131,7 +125,7 @@ pub fn first_packet_meeting<F: Fabric>(
     held: &[Message],
     own: &Way,
 ) -> Option<Meeting>
-    ensures { λ r. ⌜ r ≡ first-met (way-takes (over (F·Fabric .meaning) (now (fabric .entry))) (now (own .entry))) (map (message-holder (over (F·Fabric .meaning) (now (fabric .entry))) (now (tasks .entry))) (now (held .entry))) ⌝ }
+    ensures { λ r. ⌜ r ≡ first-met (way-takes (over (F·Fabric .meaning) (now (fabric .entry))) (now (own .entry))) (map (held-message (over (F·Fabric .meaning) (now (fabric .entry))) (now (tasks .entry))) (now (held .entry))) ⌝ }
 {
     let mut best = None;
     for m in held {
@@ -173,4 +167,33 @@ pub fn late_by(way: &Way, destination: &Task, m: &Message) -> Option<i64>
 {
     let slack = slack_on(way, destination, m)?;
     if slack < 0 { Some(slack) } else { None }
+}
+
+// The least slack of a message between two of the tasks.
+pub fn slack_of<F: Fabric>(fabric: &F, tasks: &[Task], m: &Message) -> Option<i64>
+    ensures { λ r. ⌜ r ≡ slack-among (over (F·Fabric .meaning) (now (fabric .entry))) (now (tasks .entry)) (now (m .entry)) ⌝ }
+{
+    let source = pick(tasks, m.source)?;
+    let destination = pick(tasks, m.destination)?;
+    let way = way_between(fabric, &source, &destination, m)?;
+    slack_on(&way, &destination, m)
+}
+
+// Whether the message has the task of this name as source or destination.
+fn joins(m: &Message, name: u16) -> bool
+    ensures { λ r. ⌜ r ≡ names-task name (now (m .entry)) ⌝ }
+{
+    m.source == name || m.destination == name
+}
+
+// Whether some message does.
+pub fn names_task(messages: &[Message], name: u16) -> bool
+    ensures { λ r. ⌜ r ≡ in-use name (now (messages .entry)) ⌝ }
+{
+    for m in messages {
+        if joins(m, name) {
+            return true;
+        }
+    }
+    false
 }

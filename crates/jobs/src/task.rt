@@ -1,6 +1,6 @@
 // Tasks: their limits, the core that they take and when.
 ghost use Rattle.holds.specs.Held.{span};
-ghost use Rattle.jobs.specs.Meetings.{first-met, task-holder};
+ghost use Rattle.jobs.specs.Meetings.{first-met, held-task};
 ghost use Rattle.jobs.specs.Rules.{task-timely};
 ghost use Rattle.jobs.specs.Takes.{core, task-hold, task-take, task-takes};
 ghost use Rattle.jobs.specs.Ways.{stay-take};
@@ -43,7 +43,7 @@ fn stay_of(t: &Task) -> Stay
 
 // The first meeting of the task with those held.
 pub fn first_task_meeting(held: &[Task], t: &Task) -> Option<Meeting>
-    ensures { λ r. ⌜ r ≡ first-met (task-takes (now (t .entry))) (map task-holder (now (held .entry))) ⌝ }
+    ensures { λ r. ⌜ r ≡ first-met (task-takes (now (t .entry))) (map held-task (now (held .entry))) ⌝ }
 {
     let own = stay_of(t);
     let mut best = None;

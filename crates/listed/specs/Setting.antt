@@ -17,9 +17,9 @@ use Rattle.std.specs.declared.result.Result.{Result}
 use Rattle.std.specs.declared.result.Result.the-variants.{Ok, Err}
 use Rattle.records.specs.declared.head.Head.{Head as FileHead}
 use Rattle.records.specs.declared.head.HeadFault.{HeadFault}
-use Rattle.records.specs.declared.head.HeadFault.the-variants.{Short as HeadShort, Version, Limits}
+use Rattle.records.specs.declared.head.HeadFault.the-variants.{Version, Limits}
 use Rattle.records.specs.declared.record.Route.{Route as RouteRecord}
-use Rattle.records.specs.Head.{headAt}
+use Rattle.records.specs.Head.{headRead}
 use Rattle.records.specs.Sections.{countOf, cutOf}
 use Rattle.fabric.specs.Network.{Network}
 use Rattle.listed.specs.declared.Listed.{Listed}
@@ -73,19 +73,18 @@ abbrev pub first-fault : {E : Type 0} → (ℕ → Option E) → ℕ → ℕ →
 first-fault fault k zero = None
 first-fault fault k (suc m) = either (fault k) (first-fault fault (k + 1) m)
 
--- version 1, kind 2 and the zero byte 0
-abbrev pub head-known : FileHead → Bool
-head-known h = eqb (h .version) 1 && (eqb (h .kind) 2 && eqb (h .zero) 0)
-
 -- 1 to 64 nodes, Y 1 and a hop delay of at most 64
 abbrev pub head-fits : FileHead → Bool
 head-fits h = leb 1 (h .x) && (leb (h .x) 64 && (eqb (h .y) 1 && leb (h .delay) 64))
 
+-- the head that was read, of kind 2 and within the limits: another kind is a fault of the version
+abbrev pub of-kind-2 : Result (FileHead × List ℕ) HeadFault → Result (FileHead × List ℕ) HeadFault
+of-kind-2 (Err e) = Err e
+of-kind-2 (Ok p) = cond (eqb (p .0 .kind) 2) (cond (head-fits (p .0)) (Ok p) (Err Limits)) (Err Version)
+
 -- the head of a listed fabric and the rest of the file, or the first fault
 abbrev pub listed-head : List ℕ → Result (FileHead × List ℕ) HeadFault
-listed-head file =
-    cond (ltb (length file) 6) (Err HeadShort)
-    (cond (head-known (headAt file)) (cond (head-fits (headAt file)) (Ok (headAt file, drop 6 file)) (Err Limits)) (Err Version))
+listed-head file = of-kind-2 (headRead file)
 
 -- a count is over a limit
 abbrev pub over : ℕ → Option ℕ → Bool

@@ -6,6 +6,8 @@ ghost use lib.ListN.{length};
 ghost use Rattle.std.specs.Results.{Cases, isOk};
 ghost use Rattle.std.specs.declared.result.Result.the-variants.{Ok, Err};
 ghost use Rattle.listed.specs.SetRecords.{SetRecords};
+ghost use Rattle.listed.specs.Told.{set-told};
+ghost use Rattle.refusals.specs.Told.{refusal-of};
 ghost use Rattle.listed.specs.Setting.{setting-of, alone, head-fits, listed-head, section-read, setting-read};
 use super::Listed;
 use super::SectionFault;
@@ -80,6 +82,7 @@ impl<'a> Listed<'a> {
     // Replaces the fabric by that of a file, and answers the bytes that follow its routes; or refuses and leaves the fabric.
     pub fn set(&mut self, file: &'a [u8]) -> Result<&'a [u8], SetFault>
         ensures answer { λ r. ⌜ Cases r (λ rest. setting-read (now (file .entry)) ≡ Ok (setting-of (now (self .exit)), now rest)) (λ e. setting-read (now (file .entry)) ≡ Err e) ⌝ }
+        ensures told { λ r. ⌜ refusal-of set-told r ≡ refusal-of set-told (setting-read (now (file .entry))) ⌝ }
         ensures refused { λ r. ⌜ (isOk r ≡ false → now (self .exit) ≡ now (self .entry)) ⌝ }
     {
         let (head, body) = read_listed_head(file)?;
@@ -109,7 +112,8 @@ impl<'a> Listed<'a> {
 
 // The links and routes of every fabric that a file sets are those of the file's records, and no others.
 pub fn set_records_stand() -> u8
-    ensures { λ _. ⌜ SetRecords ⌝ }
+    ensures answer { λ r. ⌜ r ≡ 0 ⌝ }
+    ensures records { λ _. ⌜ SetRecords ⌝ }
 {
     0
 }

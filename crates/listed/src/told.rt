@@ -13,7 +13,7 @@ const LINKS: u8 = 1;
 const ROUTES: u8 = 2;
 
 impl SectionFault {
-    fn told(self, section: u8) -> Told
+    pub fn told(self, section: u8) -> Told
         ensures { λ r. ⌜ r ≡ section-told section self ⌝ }
     {
         match self {

@@ -4,8 +4,10 @@ use fabric::Fabric;
 use records::record::Message;
 use records::record::Task;
 
+mod drops;
 mod loading;
 mod offers;
+mod questions;
 
 #[derive(Drop)]
 pub struct Plan<'f, F: Fabric> {

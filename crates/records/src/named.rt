@@ -1,7 +1,7 @@
 // Record kinds with a name, and the search for a name.
 ghost use mathlib.Core.Path.{_≡_};
 ghost use Prim.Native.Nat.{ℕ};
-ghost use Rattle.records.specs.Named.{spot};
+ghost use Rattle.records.specs.Named.{named, spot};
 use crate::forms::MessageRecord;
 use crate::forms::TaskRecord;
 use crate::record::Message;
@@ -42,4 +42,12 @@ pub fn find<R: Named>(records: &[R], name: u16) -> Option<usize>
         }
     }
     None
+}
+
+// The first record of a name.
+pub fn pick<R: Named + Copy>(records: &[R], name: u16) -> Option<R>
+    ensures { λ r. ⌜ r ≡ named (R·Named .label) name (now (records .entry)) ⌝ }
+{
+    let at = find(records, name)?;
+    Some(records[at])
 }

@@ -22,16 +22,16 @@ use crate::words::word;
 // No line is longer, so a buffer of this length takes any.
 const LONGEST_LINE: usize = 64;
 
-fn put_clear(out: &mut [u8], tasks: u8, messages: u8) -> usize
+fn put_clear(out: &mut [u8], tasks: usize, messages: usize) -> usize
     requires { ⌜ 64 ≤ length (now out) ⌝ }
     ensures end { λ r. ⌜ r ≡ length (lineOf (Line.Clear tasks messages)) ⌝ }
     ensures bound { λ r. ⌜ r ≤ 64 ⌝ }
     ensures holds { λ _. ⌜ now (out .exit) ≡ written (now (out .entry)) 0 (lineOf (Line.Clear tasks messages)) ⌝ }
 {
     let at = put(out, 0, b"CLEAR ");
-    let at = put_u8(out, at, tasks);
+    let at = put_u64(out, at, tasks as u64);
     let at = put(out, at, b" ");
-    let at = put_u8(out, at, messages);
+    let at = put_u64(out, at, messages as u64);
     put(out, at, b"\n")
 }
 

@@ -1,5 +1,5 @@
 // A refusal by its number and values, and what a verdict line tells.
-ghost use Rattle.refusals.specs.Told.{plain, told};
+ghost use Rattle.refusals.specs.Told.{buffer-told, plain, told};
 ghost use mathlib.Core.Path.{_≡_};
 
 // What stands after the word: nothing, the least slack, or where a meeting is.
@@ -37,7 +37,7 @@ impl Refusal {
 }
 
 impl Told {
-    // A section has at most 65,535 records, so a larger place is told as the last.
+    // A section has at most 65,535 records, so no place of one is past 65,535.
     pub fn new(section: u8, record: usize, refusal: Refusal) -> Told
         ensures { λ r. ⌜ r ≡ told section «record» refusal ⌝ }
     {
@@ -51,10 +51,18 @@ impl Told {
 
 #[derive(Clone, Copy, PartialEq, Eq, Debug)]
 pub enum Line {
-    Clear { tasks: u8, messages: u8 },
+    Clear { tasks: usize, messages: usize },
     Refused(Told),
 }
 
 // The buffer has fewer than 64 bytes: refusal 27.
 #[derive(Clone, Copy, PartialEq, Eq, Debug)]
 pub struct BufferFault;
+
+impl BufferFault {
+    pub fn told(self) -> Refusal
+        ensures { λ r. ⌜ r ≡ buffer-told self ⌝ }
+    {
+        Refusal::plain(27)
+    }
+}

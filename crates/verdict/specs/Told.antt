@@ -1,5 +1,5 @@
 -- Section, record and refusal of each fault of a plan file, and the line of a verdict. Assumes nothing.
-use Prim.Native.Nat.{ℕ, min}
+use Prim.Native.Nat.{ℕ}
 use Rattle.std.specs.declared.result.Result.{Result}
 use Rattle.std.specs.declared.result.Result.the-variants.{Ok, Err}
 use Rattle.refusals.specs.Told.{plain, told}
@@ -16,7 +16,7 @@ file-told Extra = told 5 0 (plain 25)
 file-told (Fabric e) = set-told e
 file-told (Load e) = load-told e
 
--- a plan holds at most 64 tasks and 128 messages, so the counts fit a byte
+-- the counts of what is held, or the refusal
 abbrev pub verdict-line : Result (ℕ × ℕ) FileFault → Line
-verdict-line (Ok p) = Clear (min (p .0) 255) (min (p .1) 255)
+verdict-line (Ok p) = Clear (p .0) (p .1)
 verdict-line (Err e) = Refused (file-told e)

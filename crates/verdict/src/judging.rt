@@ -1,8 +1,10 @@
 // Judging a plan file: its own fabric and plan are made, its jobs loaded, and the verdict line written.
 ghost use Rattle.refusals.specs.Lines.{lineOf, tooShort};
+ghost use Rattle.refusals.specs.Told.{buffer-told, plain, refusal-of};
 ghost use Rattle.refusals.specs.Written.{written};
 ghost use Rattle.std.specs.Results.{Cases};
 ghost use Rattle.std.specs.Vec.{made};
+ghost use Rattle.std.specs.declared.option.Option.the-variants.{Some, None};
 ghost use Rattle.std.specs.declared.result.Result.the-variants.{Ok, Err};
 ghost use Rattle.verdict.specs.Told.{verdict-line};
 ghost use Rattle.verdict.specs.Verdict.{judged-on, listed-verdict, mesh-sections, mesh-verdict, verdict-of};
@@ -100,10 +102,7 @@ fn line_of(verdict: Result<(usize, usize), FileFault>) -> Line
     ensures { λ r. ⌜ r ≡ verdict-line verdict ⌝ }
 {
     match verdict {
-        Ok((tasks, messages)) => Line::Clear {
-            tasks: tasks.min(255) as u8,
-            messages: messages.min(255) as u8,
-        },
+        Ok((tasks, messages)) => Line::Clear { tasks, messages },
         Err(fault) => Line::Refused(fault.told()),
     }
 }
@@ -113,6 +112,7 @@ fn line_of(verdict: Result<(usize, usize), FileFault>) -> Line
 pub fn judge(file: &[u8], out: &mut [u8]) -> Result<usize, BufferFault>
     ensures answer { λ r. ⌜ r ≡ cond (ltb (length (now (out .entry))) 64) (Err tooShort) (Ok (length (lineOf (verdict-line (verdict-of (now (file .entry))))))) ⌝ }
     ensures buffer { λ _. ⌜ now (out .exit) ≡ cond (ltb (length (now (out .entry))) 64) (now (out .entry)) (written (now (out .entry)) 0 (lineOf (verdict-line (verdict-of (now (file .entry)))))) ⌝ }
+    ensures told { λ r. ⌜ refusal-of buffer-told r ≡ cond (ltb (length (now (out .entry))) 64) (Some (plain 27)) None ⌝ }
     ensures bound { λ r. ⌜ made r (λ n. n ≤ 64) ⌝ }
 {
     if out.len() < 64 {

@@ -136,6 +136,7 @@ fn leg(columns: usize, x: usize, y: usize, x2: usize, y2: usize, place: usize) -
 // Every two nodes of every mesh have a route, along x first and as long as they are apart; and the worked example,
 // three by three: node 0 to 5 is links 0, 4, 10, and back 21, 17, 15.
 pub fn mesh_routes_stand() -> u8
+    ensures answer { λ r. ⌜ r ≡ 0 ⌝ }
     ensures routes { λ _. ⌜ MeshRoutes ⌝ }
     ensures there { λ _. ⌜ grid 3 3 0 .route 0 5 ≡ Some (0 ∷ 4 ∷ 10 ∷ []) ⌝ }
     ensures back { λ _. ⌜ grid 3 3 0 .route 5 0 ≡ Some (21 ∷ 17 ∷ 15 ∷ []) ⌝ }

@@ -1,3 +1,4 @@
+use mathlib.Core.Path.{refl}
 use Rattle.holds.proofs.Euclid.{gcd-is-greatest}
 use Rattle.holds.proofs.First.{first-is, meeting-bound}
 use Rattle.holds.proofs.Pair.{pair-test}
@@ -8,6 +9,7 @@ use Rattle.holds.proofs.formulas_stand.Needs as need
 pub returns : need.returns
 returns c =
     record {
+      answer = refl;
       divisor = gcd-is-greatest;
       pair = pair-test;
       difference = gap-is-difference;

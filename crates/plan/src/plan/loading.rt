@@ -1,7 +1,9 @@
 // Loads of job parts.
 ghost use Rattle.plan.specs.Held.{jobs, setting};
 ghost use Rattle.plan.specs.Loading.{load, load-messages, load-tasks};
+ghost use Rattle.plan.specs.Told.{load-told};
 ghost use Rattle.records.specs.Forms.{messageOf, taskOf};
+ghost use Rattle.refusals.specs.Told.{refusal-of};
 ghost use Rattle.records.specs.Sections.{section-records};
 ghost use Rattle.records.specs.declared.record.Message.{Message as MessageOf};
 ghost use Rattle.records.specs.declared.record.Task.{Task as TaskOf};
@@ -63,6 +65,7 @@ impl<'f, F: Fabric> Plan<'f, F> {
     // refused at an offer keeps the jobs of the records before it.
     pub fn load(&mut self, part: &[u8]) -> Result<(usize, usize), LoadFault>
         ensures answer { λ r. ⌜ r ≡ load (setting (F·Fabric .meaning) (now (self .entry))) (jobs (now (self .entry))) (now (part .entry)) .0 ⌝ }
+        ensures told { λ r. ⌜ refusal-of load-told r ≡ refusal-of load-told (load (setting (F·Fabric .meaning) (now (self .entry))) (jobs (now (self .entry))) (now (part .entry)) .0) ⌝ }
         ensures after { λ r. ⌜ jobs (now (self .exit)) ≡ load (setting (F·Fabric .meaning) (now (self .entry))) (jobs (now (self .entry))) (now (part .entry)) .1 ⌝ }
         ensures fabric { λ r. ⌜ now (self .exit) .fabric ≡ now (self .entry) .fabric ⌝ }
     {

@@ -1,8 +1,10 @@
 // New plans, and the offers of tasks and messages.
 ghost use Prim.Native.Nat.{_<_};
 ghost use Rattle.jobs.specs.Jobs.{nothing, with-message, with-task};
+ghost use Rattle.jobs.specs.Numbers.{message-told, task-told};
 ghost use Rattle.jobs.specs.Rules.{message-refusal, offer-message, offer-task, routed-refusal, task-refusal};
 ghost use Rattle.plan.specs.Held.{jobs, setting};
+ghost use Rattle.refusals.specs.Told.{refusal-of};
 ghost use Rattle.std.specs.Results.{isOk};
 ghost use Rattle.std.specs.declared.option.Option.the-variants.{None};
 ghost use mathlib.Core.Bool.{false};
@@ -14,13 +16,13 @@ use jobs::fault::TaskFault;
 use jobs::message;
 use jobs::message::first_packet_meeting;
 use jobs::message::late_by;
-use jobs::message::task_named;
 use jobs::message::way_between;
 use jobs::task;
 use jobs::task::first_task_meeting;
 use records::named::MessageNamed;
 use records::named::TaskNamed;
 use records::named::find;
+use records::named::pick;
 use records::record::Message;
 use records::record::Task;
 use records::tables::insert;
@@ -76,6 +78,7 @@ impl<'f, F: Fabric> Plan<'f, F> {
     // The task is held where no check refuses it.
     pub fn offer_task(&mut self, t: Task) -> Result<(), TaskFault>
         ensures answer { λ r. ⌜ r ≡ offer-task (setting (F·Fabric .meaning) (now (self .entry))) (jobs (now (self .entry))) t .0 ⌝ }
+        ensures told { λ r. ⌜ refusal-of task-told r ≡ refusal-of task-told (offer-task (setting (F·Fabric .meaning) (now (self .entry))) (jobs (now (self .entry))) t .0) ⌝ }
         ensures after { λ r. ⌜ jobs (now (self .exit)) ≡ offer-task (setting (F·Fabric .meaning) (now (self .entry))) (jobs (now (self .entry))) t .1 ⌝ }
         ensures fabric { λ r. ⌜ now (self .exit) .fabric ≡ now (self .entry) .fabric ⌝ }
         ensures refused { λ r. ⌜ (isOk r ≡ false → now (self .exit) ≡ now (self .entry)) ⌝ }
@@ -119,10 +122,10 @@ impl<'f, F: Fabric> Plan<'f, F> {
             return Some(MessageFault::Name);
         }
         let tasks = &self.tasks[0..self.task_count];
-        let Some(source) = task_named(tasks, m.source) else {
+        let Some(source) = pick(tasks, m.source) else {
             return Some(MessageFault::Ends);
         };
-        let Some(destination) = task_named(tasks, m.destination) else {
+        let Some(destination) = pick(tasks, m.destination) else {
             return Some(MessageFault::Ends);
         };
         if !message::timely(&source, m) {
@@ -144,6 +147,7 @@ impl<'f, F: Fabric> Plan<'f, F> {
     // The message is held where no check refuses it.
     pub fn offer_message(&mut self, m: Message) -> Result<(), MessageFault>
         ensures answer { λ r. ⌜ r ≡ offer-message (setting (F·Fabric .meaning) (now (self .entry))) (jobs (now (self .entry))) m .0 ⌝ }
+        ensures told { λ r. ⌜ refusal-of message-told r ≡ refusal-of message-told (offer-message (setting (F·Fabric .meaning) (now (self .entry))) (jobs (now (self .entry))) m .0) ⌝ }
         ensures after { λ r. ⌜ jobs (now (self .exit)) ≡ offer-message (setting (F·Fabric .meaning) (now (self .entry))) (jobs (now (self .entry))) m .1 ⌝ }
         ensures fabric { λ r. ⌜ now (self .exit) .fabric ≡ now (self .entry) .fabric ⌝ }
         ensures refused { λ r. ⌜ (isOk r ≡ false → now (self .exit) ≡ now (self .entry)) ⌝ }

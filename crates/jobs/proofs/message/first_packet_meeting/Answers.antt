@@ -5,7 +5,7 @@ use Prim.Native.Nat.{_+_}
 use Rattle.std.proofs.shelf.Lists.{at-drop-all, at-drop-more}
 use Rattle.records.specs.declared.record.Message.{Message}
 use Rattle.jobs.specs.Jobs.{over}
-use Rattle.jobs.specs.Meetings.{all-meetings, earliest-from, meetings, message-holder}
+use Rattle.jobs.specs.Meetings.{all-meetings, earliest-from, meetings, held-message}
 use Rattle.jobs.specs.Takes.{message-takes}
 use Rattle.jobs.specs.Ways.{way-takes}
 use Rattle.jobs.proofs.Meets.{all-more, meetings-none}
@@ -24,9 +24,9 @@ loop-m-again g c =
     let own = way-takes s (c .args .own .now) in
     let ts = c .args .tasks .now in
     let m = getD (c .args .held .now) (c .loop-m .m-index) no-message in
-    let left = map (message-holder s ts) (drop (c .loop-m .m-index + 1) (c .args .held .now)) in
-    let step = at-drop-more (λ ms. earliest-from (c .loop-m .best) (all-meetings own (map (message-holder s ts) ms))) (c .args .held .now) (c .loop-m .m-index) no-message (c .loop-m-test .taken) in
-    let one = all-more (c .loop-m .best) own (message-holder s ts m) left in
+    let left = map (held-message s ts) (drop (c .loop-m .m-index + 1) (c .args .held .now)) in
+    let step = at-drop-more (λ ms. earliest-from (c .loop-m .best) (all-meetings own (map (held-message s ts) ms))) (c .args .held .now) (c .loop-m .m-index) no-message (c .loop-m-test .taken) in
+    let one = all-more (c .loop-m .best) own (held-message s ts m) left in
     let best : c .match-way-of .best ≡ earliest-from (c .loop-m .best) (meetings (m .name) own (message-takes s ts m)) =
     elim (c .match-way-of .came) [
       | in-Some w ↦ w .best-is ∙ w .nearest-best .ensures ∙ ap (λ ys. earliest-from (c .loop-m .best) (meetings (m .name) own ys)) (w .in-Some .ensures tt)
@@ -37,5 +37,5 @@ loop-m-again g c =
 pub returns : need.returns
 returns g c =
     let s = over (g .F·Fabric .meaning) (c .args .fabric .now) in
-    sym (at-drop-all (λ ms. earliest-from (c .loop-m .best) (all-meetings (way-takes s (c .args .own .now)) (map (message-holder s (c .args .tasks .now)) ms))) (c .args .held .now) (c .loop-m .m-index) (c .loop-m-test .left))
+    sym (at-drop-all (λ ms. earliest-from (c .loop-m .best) (all-meetings (way-takes s (c .args .own .now)) (map (held-message s (c .args .tasks .now)) ms))) (c .args .held .now) (c .loop-m .m-index) (c .loop-m-test .left))
     ∙ c .loop-m .inv

@@ -2,7 +2,7 @@ use mathlib.Core.List.{map}
 use mathlib.Core.Path.{_≡_}
 use lib.ListN.{drop}
 use Rattle.jobs.specs.Jobs.{over}
-use Rattle.jobs.specs.Meetings.{all-meetings, earliest-from, first-met, message-holder}
+use Rattle.jobs.specs.Meetings.{all-meetings, earliest-from, first-met, held-message}
 use Rattle.jobs.specs.Ways.{way-takes}
 use Rattle.jobs.proofs.message.first_packet_meeting.Given as given
 
@@ -10,5 +10,5 @@ use Rattle.jobs.proofs.message.first_packet_meeting.Given as given
 abbrev pub Inv-loop-m : given.InvT-loop-m
 Inv-loop-m g l =
     let s = over (g .F·Fabric .meaning) (l .fabric) in
-    earliest-from (l .best) (all-meetings (way-takes s (l .own)) (map (message-holder s (l .tasks)) (drop (l .m-index) (l .held))))
-    ≡ first-met (way-takes s (l .own)) (map (message-holder s (l .tasks)) (l .held))
+    earliest-from (l .best) (all-meetings (way-takes s (l .own)) (map (held-message s (l .tasks)) (drop (l .m-index) (l .held))))
+    ≡ first-met (way-takes s (l .own)) (map (held-message s (l .tasks)) (l .held))

@@ -4,7 +4,7 @@ use lib.ListN.{getD, drop}
 use Prim.Native.Nat.{_+_}
 use Rattle.std.proofs.shelf.Lists.{at-drop-all, at-drop-more}
 use Rattle.records.specs.declared.record.Task.{Task}
-use Rattle.jobs.specs.Meetings.{all-meetings, earliest-from, met, sooner, task-holder}
+use Rattle.jobs.specs.Meetings.{all-meetings, earliest-from, met, sooner, held-task}
 use Rattle.jobs.specs.Takes.{core, task-take, task-takes}
 use Rattle.jobs.specs.Ways.{stay-take}
 use Rattle.jobs.proofs.task.first_task_meeting.Needs as need
@@ -24,10 +24,10 @@ loop-u-again c =
     let meets : c .meeting-at .result ≡ met (u .name) (task-take t) (task-take u) =
     c .meeting-at .ensures .cores ∙ ap (λ x. met (u .name) x (stay-take core (c .stay-of .result))) (c .loop-u .inv .0) ∙ ap (met (u .name) (task-take t)) (c .stay-of .ensures) in (
       c .loop-u .inv .0,
-      ap (λ b. earliest-from b (all-meetings (task-takes t) (map task-holder (drop (i + 1) held)))) (c .earlier-best .ensures ∙ ap (sooner (c .loop-u .best)) meets)
-          ∙ sym (at-drop-more (λ us. earliest-from (c .loop-u .best) (all-meetings (task-takes t) (map task-holder us))) held i no-task (c .loop-u-test .taken)) ∙ c .loop-u .inv .1,
+      ap (λ b. earliest-from b (all-meetings (task-takes t) (map held-task (drop (i + 1) held)))) (c .earlier-best .ensures ∙ ap (sooner (c .loop-u .best)) meets)
+          ∙ sym (at-drop-more (λ us. earliest-from (c .loop-u .best) (all-meetings (task-takes t) (map held-task us))) held i no-task (c .loop-u-test .taken)) ∙ c .loop-u .inv .1,
     )
 
 pub returns : need.returns
 returns c =
-    sym (at-drop-all (λ us. earliest-from (c .loop-u .best) (all-meetings (task-takes (c .args .t .now)) (map task-holder us))) (c .args .held .now) (c .loop-u .u-index) (c .loop-u-test .left)) ∙ c .loop-u .inv .1
+    sym (at-drop-all (λ us. earliest-from (c .loop-u .best) (all-meetings (task-takes (c .args .t .now)) (map held-task us))) (c .args .held .now) (c .loop-u .u-index) (c .loop-u-test .left)) ∙ c .loop-u .inv .1

@@ -6,8 +6,10 @@ use Rattle.std.specs.declared.result.Result.the-variants.{Ok, Err}
 use Rattle.records.specs.Forms.{taskOf, messageOf}
 use Rattle.records.proofs.Sections.{section-length}
 use Rattle.jobs.specs.Jobs.{over}
+use Rattle.refusals.specs.Told.{refusal-of}
 use Rattle.plan.specs.Held.{jobs, setting}
 use Rattle.plan.specs.Loading.{Laid-out, load, loaded, load-tasks, load-messages, past-tasks, past-messages}
+use Rattle.plan.specs.Told.{load-told}
 use Rattle.plan.proofs.plan.Plan.load.Needs as need
 
 -- each step of the load is what the rule does next
@@ -33,8 +35,11 @@ returns g c =
     ∙ ap (λ j. (past-messages (length ts) (length ms) (load-messages s j 0 ms .0), load-messages s j 0 ms .1)) (sym held) in
     let tasks : c .count .result ≡ length ts = c .count .ensures ∙ sym (section-length taskOf 16 (c .in-Continue-job .job .tasks .bytes .now) ts (laid .task-records)) in
     let messages : c .count-2 .result ≡ length ms = c .count-2 .ensures ∙ sym (section-length messageOf 16 (c .in-Continue-job .job .messages .bytes .now) ms (laid .message-records)) in
+    let answer : Ok (c .count .result, c .count-2 .result) ≡ load s js (c .args .part .now) .0 =
+    ap (λ (n : ℕ). Ok (n, c .count-2 .result)) tasks ∙ ap (λ (n : ℕ). Ok (length ts, n)) messages ∙ ap (past-messages (length ts) (length ms)) sent ∙ sym (ap (λ r. r .0) whole) in
     record {
-      answer = ap (λ (n : ℕ). Ok (n, c .count-2 .result)) tasks ∙ ap (λ (n : ℕ). Ok (length ts, n)) messages ∙ ap (past-messages (length ts) (length ms)) sent ∙ sym (ap (λ r. r .0) whole);
+      answer = answer;
+      told = ap (refusal-of load-told) answer;
       after = after ∙ sym (ap (λ r. r .1) whole);
       fabric = c .load-messages .ensures .fabric ∙ c .load-tasks .ensures .fabric;
     }

@@ -20,9 +20,9 @@ returns g c =
     let p = c .args .self .now in
     let m = c .args .m .now in
     let s = c .in-Some .source in
-    let d = c .in-Some-task-named .destination in
+    let d = c .in-Some-pick .destination in
     let source : Some s ≡ task-named (jobs p .tasks) (m .source) = c .in-Some .ensures tt ∙ ap (λ k. task-named (take k (p .tasks)) (m .source)) (sub-zero (p .«task_count»)) in
-    let destination : Some d ≡ task-named (jobs p .tasks) (m .destination) = c .in-Some-task-named .ensures tt ∙ ap (λ k. task-named (take k (p .tasks)) (m .destination)) (sub-zero (p .«task_count»)) in
+    let destination : Some d ≡ task-named (jobs p .tasks) (m .destination) = c .in-Some-pick .ensures tt ∙ ap (λ k. task-named (take k (p .tasks)) (m .destination)) (sub-zero (p .«task_count»)) in
     let fresh : isSome (spot message-name (m .name) (jobs p .messages)) ≡ false =
     sym (ap (λ k. isSome (spot message-name (m .name) (take k (p .messages)))) (sub-zero (p .«message_count»))) ∙ sym (ap isSome (c .find .ensures)) ∙ sym (c .if-is-some .ensures tt) in
     let named : name-taken message-name (m .name) (jobs p .messages) ≡ false = or-from _ _ (ne-eqb (m .name) 0 (c .if-m-eq0 .left)) fresh in
