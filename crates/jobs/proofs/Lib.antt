@@ -2,3 +2,4 @@ pub mod Meets
 pub mod Walks
 pub mod Slacks
 pub mod Limits
+pub mod Holders

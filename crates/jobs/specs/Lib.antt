@@ -8,3 +8,4 @@ pub mod Numbers
 pub mod Drops
 pub mod Slacks
 pub mod Stand
+pub mod Holding

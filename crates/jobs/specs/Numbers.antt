@@ -9,6 +9,7 @@ use Rattle.jobs.specs.declared.fault.TaskFault.the-variants as task-fault
 use Rattle.jobs.specs.declared.fault.MessageFault.{MessageFault}
 use Rattle.jobs.specs.declared.fault.MessageFault.the-variants as message-fault
 use Rattle.jobs.specs.declared.fault.DropFault.{DropFault}
+use Rattle.jobs.specs.declared.fault.PlaceFault.{PlaceFault}
 use Rattle.jobs.specs.declared.fault.DropFault.the-variants as drop-fault
 
 -- a refusal with the first meeting: its instant, the held name and the place
@@ -34,3 +35,6 @@ message-told (message-fault.Meets m) = meets 20 m
 abbrev pub drop-told : DropFault → Refusal
 drop-told drop-fault.Unknown = plain 21
 drop-told drop-fault.InUse = plain 22
+
+abbrev pub place-told : PlaceFault → Refusal
+place-told e = plain 26

@@ -1,5 +1,5 @@
 // Why an offer is refused, and the number of each refusal.
-ghost use Rattle.jobs.specs.Numbers.{drop-told, meets, message-told, task-told};
+ghost use Rattle.jobs.specs.Numbers.{drop-told, meets, message-told, place-told, task-told};
 ghost use mathlib.Core.Path.{_≡_};
 use refusals::refusal::Detail;
 use refusals::refusal::Refusal;
@@ -53,6 +53,18 @@ pub enum DropFault {
     Unknown,
     // a held message names the task
     InUse,
+}
+
+// A core or link number is not below its count.
+#[derive(Clone, Copy, PartialEq, Eq, Debug)]
+pub struct PlaceFault;
+
+impl PlaceFault {
+    pub fn told(self) -> Refusal
+        ensures { λ r. ⌜ r ≡ place-told self ⌝ }
+    {
+        Refusal::plain(26)
+    }
 }
 
 impl Meeting {

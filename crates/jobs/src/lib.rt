@@ -3,6 +3,7 @@ ghost use Rattle.jobs.specs.Stand.{Packet-holds, Slack-formula, Task-holds};
 ghost use mathlib.Core.Path.{_≡_};
 
 pub mod fault;
+pub mod holder;
 pub mod meeting;
 pub mod message;
 pub mod stay;

@@ -60,7 +60,7 @@ pub fn way_between<F: Fabric>(
 }
 
 // The stay of packets on the link at a place of their way.
-fn stay_on<F: Fabric>(fabric: &F, way: &Way, place: usize) -> Option<Stay>
+pub(crate) fn stay_on<F: Fabric>(fabric: &F, way: &Way, place: usize) -> Option<Stay>
     requires { ⌜ place ≤ 64 ⌝ }
     ensures { λ r. ⌜ BySome r (None ≡ route-place (F·Fabric .meaning (now (fabric .entry)) .route (now (way .entry) .from) (now (way .entry) .to)) place) (λ s. (Some (s .place) ≡ route-place (F·Fabric .meaning (now (fabric .entry)) .route (now (way .entry) .from) (now (way .entry) .to)) place) × (mapped span (s .hold) ≡ spanned (now (way .entry) .start + place * now (way .entry) .hop) (now (way .entry) .period) (now (way .entry) .width))) ⌝ }
 {
@@ -110,7 +110,7 @@ fn nearest<F: Fabric>(
 }
 
 // The way of a held message, by the names of its tasks.
-fn way_of<F: Fabric>(fabric: &F, tasks: &[Task], m: &Message) -> Option<Way>
+pub(crate) fn way_of<F: Fabric>(fabric: &F, tasks: &[Task], m: &Message) -> Option<Way>
     ensures { λ r. ⌜ takes-of (over (F·Fabric .meaning) (now (fabric .entry))) r ≡ message-takes (over (F·Fabric .meaning) (now (fabric .entry))) (now (tasks .entry)) (now (m .entry)) ⌝ }
 {
     let source = pick(tasks, m.source)?;

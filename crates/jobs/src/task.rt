@@ -32,7 +32,7 @@ pub(crate) fn hold_of(t: &Task) -> Option<Hold>
     Hold::new(u64::from(t.phase), t.period, t.width)
 }
 
-fn stay_of(t: &Task) -> Stay
+pub(crate) fn stay_of(t: &Task) -> Stay
     ensures { λ r. ⌜ stay-take core r ≡ task-take (now (t .entry)) ⌝ }
 {
     Stay {
