@@ -1,4 +1,5 @@
 // One plan over any fabric: tasks and messages are offered, and held where no check refuses them.
+#![tactic(auto)]
 pub mod fault;
 mod layout;
 pub mod plan;

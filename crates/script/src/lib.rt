@@ -1,4 +1,5 @@
 // Scripts of calls: a line read, an answer shown, and the calls of lines run.
+#![tactic(auto)]
 mod bytes;
 pub mod fabrics;
 mod forms;

@@ -1,4 +1,5 @@
 // The verdict on a whole plan file, as one line in a caller's buffer.
+#![tactic(auto)]
 mod fault;
 mod judging;
 

@@ -1,4 +1,5 @@
 // Plans worked by hand, shown of the definitions that the library's contracts cite.
+#![tactic(auto)]
 ghost use Rattle.worked.specs.Worked.{Worked};
 ghost use Rattle.std.specs.Prelude.{◌≡◌};
 

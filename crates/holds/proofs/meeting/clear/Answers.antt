@@ -13,8 +13,8 @@ some one other g e = omega (arith, gcd_positive one.period other.period (period_
 pub gap-d-requires : goal.gap-d-requires
 gap-d-requires c = (some c.args.one c.args.other c.gcd-g.result c.gcd-g.ensures, c.args.other.near)
 
-pub overflow-add-result : goal.overflow-add-result
-overflow-add-result c =
+pub overflow_add-result : goal.overflow_add-result
+overflow_add-result c =
     omega (
       arith,
       gap_below c.args.one.start c.args.other.start c.gcd-g.result

@@ -21,23 +21,23 @@ turn c =
     grown c.args.m c.loop-wide.at c.loop-wide.step c.loop-wide.size c.loop-wide.each c.loop-wide.past c.loop-wide.count (x c)
     (omega arith) (omega arith) c.loop-wide.invariant.1
 
-pub overflow-add-x : goal.overflow-add-x
-overflow-add-x c = omega arith
+pub overflow_add-x : goal.overflow_add-x
+overflow_add-x c = omega arith
 
-pub overflow-mul-count : goal.overflow-mul-count
-overflow-mul-count c = omega (arith, turn c)
+pub overflow_mul-count : goal.overflow_mul-count
+overflow_mul-count c = omega (arith, turn c)
 
-pub overflow-add-count : goal.overflow-add-count
-overflow-add-count c = omega (arith, turn c)
+pub overflow_add-count : goal.overflow_add-count
+overflow_add-count c = omega (arith, turn c)
 
-pub overflow-add-count-in-loop-wide : goal.overflow-add-count-in-loop-wide
-overflow-add-count-in-loop-wide c = omega (arith, turn c)
+pub overflow_add-count-in-loop-wide : goal.overflow_add-count-in-loop-wide
+overflow_add-count-in-loop-wide c = omega (arith, turn c)
 
-pub overflow-mul-more : goal.overflow-mul-more
-overflow-mul-more c = omega (arith, turn c)
+pub overflow_mul-more : goal.overflow_mul-more
+overflow_mul-more c = omega (arith, turn c)
 
-pub overflow-add-more : goal.overflow-add-more
-overflow-add-more c = omega (arith, turn c)
+pub overflow_add-more : goal.overflow_add-more
+overflow_add-more c = omega (arith, turn c)
 
 pub loop-wide-preserved : goal.loop-wide-preserved
 loop-wide-preserved c = (

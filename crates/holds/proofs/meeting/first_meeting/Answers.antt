@@ -19,22 +19,22 @@ runs one other r a w j h =
     run_fits j one.period other.period (least_below r a other.period w j (period_some other) h) (omega (arith, one.short))
     (omega (arith, other.short))
 
-pub overflow-add-ahead : goal.overflow-add-ahead
-overflow-add-ahead c = omega (arith, begins c.args.one c.args.other c.ending-after-begin.result c.ending-after-begin.ensures)
+pub overflow_add-ahead : goal.overflow_add-ahead
+overflow_add-ahead c = omega (arith, begins c.args.one c.args.other c.ending_after-begin.result c.ending_after-begin.ensures)
 
-pub overflow-add-run : goal.overflow-add-run
-overflow-add-run c =
+pub overflow_add-run : goal.overflow_add-run
+overflow_add-run c =
     omega (
       arith,
-      begins c.args.one c.args.other c.ending-after-begin.result c.ending-after-begin.ensures,
+      begins c.args.one c.args.other c.ending_after-begin.result c.ending_after-begin.ensures,
       runs c.args.one c.args.other _ _ _ c.in-Some.j c.in-Some.ensures,
     )
 
-pub ending-after-requires : goal.ending-after-requires
-ending-after-requires c =
+pub ending_after-requires : goal.ending_after-requires
+ending_after-requires c =
     omega (
       arith,
-      begins c.args.one c.args.other c.ending-after-begin.result c.ending-after-begin.ensures,
+      begins c.args.one c.args.other c.ending_after-begin.result c.ending_after-begin.ensures,
       runs c.args.one c.args.other _ _ _ c.in-Some.j c.in-Some.ensures,
     )
 
@@ -42,9 +42,9 @@ pub returns-in-Some : goal.returns-in-Some
 returns-in-Some c =
     let is : IsFirst (span c.args.one) (span c.args.other) (Some c.max.result)
     = subst (λ (n : ℕ). IsFirst (span c.args.one) (span c.args.other) (Some n)) (sym c.max.ensures)
-    (meet_first (span c.args.one) (span c.args.other) (proper c.args.one) (proper c.args.other) c.ending-after-begin.result
-    (c.ending-after-begin.result + c.args.one.width - 1 - c.args.other.start) _ c.ending-after-begin.ensures
-    (omega (arith, c.ending-after-begin.ensures.ends)) (omega arith) c.in-Some.j c.ending-after.result c.in-Some.ensures c.ending-after.ensures) in
+    (meet_first (span c.args.one) (span c.args.other) (proper c.args.one) (proper c.args.other) c.ending_after-begin.result
+    (c.ending_after-begin.result + c.args.one.width - 1 - c.args.other.start) _ c.ending_after-begin.ensures
+    (omega (arith, c.ending_after-begin.ensures.ends)) (omega arith) c.in-Some.j c.ending_after.result c.in-Some.ensures c.ending_after.ensures) in
     record {
       formula = first_only (span c.args.one) (span c.args.other) _ _ is (first_is (span c.args.one) (span c.args.other) (proper c.args.one) (proper c.args.other));
       instants = is;
@@ -53,9 +53,9 @@ returns-in-Some c =
 pub returns-in-None : goal.returns-in-None
 returns-in-None c =
     let is : IsFirst (span c.args.one) (span c.args.other) None
-    = never_meet (span c.args.one) (span c.args.other) (proper c.args.one) (proper c.args.other) c.ending-after-begin.result
-    (c.ending-after-begin.result + c.args.one.width - 1 - c.args.other.start) _ c.ending-after-begin.ensures
-    (omega (arith, c.ending-after-begin.ensures.ends)) (omega arith) c.in-None.ensures in
+    = never_meet (span c.args.one) (span c.args.other) (proper c.args.one) (proper c.args.other) c.ending_after-begin.result
+    (c.ending_after-begin.result + c.args.one.width - 1 - c.args.other.start) _ c.ending_after-begin.ensures
+    (omega (arith, c.ending_after-begin.ensures.ends)) (omega arith) c.in-None.ensures in
     record {
       formula = first_only (span c.args.one) (span c.args.other) None _ is (first_is (span c.args.one) (span c.args.other) (proper c.args.one) (proper c.args.other));
       instants = is;

@@ -21,14 +21,14 @@ short d r g e = gap_below d.due r.start g (some d r g e)
 pub gap-requires : goal.gap-requires
 gap-requires c = (some c.args.packets c.args.reader c.gcd-g.result c.gcd-g.ensures, c.args.reader.near)
 
-pub overflow-add-read : goal.overflow-add-read
-overflow-add-read c = omega (arith, short c.args.packets c.args.reader c.gcd-g.result c.gcd-g.ensures)
+pub overflow_add-read : goal.overflow_add-read
+overflow_add-read c = omega (arith, short c.args.packets c.args.reader c.gcd-g.result c.gcd-g.ensures)
 
-pub overflow-cast-result : goal.overflow-cast-result
-overflow-cast-result c = omega (arith, short c.args.packets c.args.reader c.gcd-g.result c.gcd-g.ensures)
+pub overflow_cast-result : goal.overflow_cast-result
+overflow_cast-result c = omega (arith, short c.args.packets c.args.reader c.gcd-g.result c.gcd-g.ensures)
 
-pub overflow-sub-result : goal.overflow-sub-result
-overflow-sub-result c = omega (arith, ints, short c.args.packets c.args.reader c.gcd-g.result c.gcd-g.ensures)
+pub overflow_sub-result : goal.overflow_sub-result
+overflow_sub-result c = omega (arith, ints, short c.args.packets c.args.reader c.gcd-g.result c.gcd-g.ensures)
 
 pub returns : goal.returns
 returns c =

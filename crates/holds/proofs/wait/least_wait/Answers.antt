@@ -18,11 +18,11 @@ short held own g d e is = omega (arith, gap_below held.start own.start g (some h
 pub gap-d-requires : goal.gap-d-requires
 gap-d-requires c = (some c.args.held c.args.own c.gcd-g.result c.gcd-g.ensures, c.args.own.near)
 
-pub overflow-cast-d : goal.overflow-cast-d
-overflow-cast-d c = omega (arith, short c.args.held c.args.own c.gcd-g.result c.gap-d.result c.gcd-g.ensures c.gap-d.ensures)
+pub overflow_cast-d : goal.overflow_cast-d
+overflow_cast-d c = omega (arith, short c.args.held c.args.own c.gcd-g.result c.gap-d.result c.gcd-g.ensures c.gap-d.ensures)
 
-pub overflow-sub-left : goal.overflow-sub-left
-overflow-sub-left c = omega (arith, short c.args.held c.args.own c.gcd-g.result c.gap-d.result c.gcd-g.ensures c.gap-d.ensures)
+pub overflow_sub-left : goal.overflow_sub-left
+overflow_sub-left c = omega (arith, short c.args.held c.args.own c.gcd-g.result c.gap-d.result c.gcd-g.ensures c.gap-d.ensures)
 
 pub returns-then-g-held : goal.returns-then-g-held
 returns-then-g-held c =

@@ -16,7 +16,7 @@ returns-in-Some c =
     let held = c.args.held.now in
     let i = c.loop-t.t-index in
     let t = get_or held i no_task in
-    let is = c.in-Some.ensures.cores ∙ ap (run_on p n) c.stay-of.ensures in
+    let is = c.in-Some.ensures.cores ∙ ap (run_on p n) c.stay_of.ensures in
     ap (λ o. or_else (with_name t.name (or_else o None)) (holder_among p n (map held_task (drop (i + 1) held)))) is
     ∙ sym (at_drop_more (λ us. holder_among p n (map held_task us)) held i no_task c.loop-t-test.true) ∙ c.loop-t.invariant
 
@@ -27,7 +27,7 @@ loop-t-preserved c =
     let held = c.args.held.now in
     let i = c.loop-t.t-index in
     let t = get_or held i no_task in
-    let is : None ≡ run_on p n (task_take t) = c.in-default.ensures.cores ∙ ap (run_on p n) c.stay-of.ensures in
+    let is : None ≡ run_on p n (task_take t) = c.in_default.ensures.cores ∙ ap (run_on p n) c.stay_of.ensures in
     ap (λ o. or_else (with_name t.name (or_else o None)) (holder_among p n (map held_task (drop (i + 1) held)))) is
     ∙ sym (at_drop_more (λ us. holder_among p n (map held_task us)) held i no_task c.loop-t-test.true) ∙ c.loop-t.invariant
 

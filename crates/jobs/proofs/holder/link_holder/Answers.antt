@@ -29,7 +29,7 @@ loop-m-preserved g c =
     let held = c.args.held.now in
     let job = held_message s c.args.tasks.now in
     let i = c.loop-m.m-index in
-    ap (λ o. or_else (with_name (get_or held i no_message).name o) (holder_among p n (map job (drop (i + 1) held)))) c.in-default.ensures
+    ap (λ o. or_else (with_name (get_or held i no_message).name o) (holder_among p n (map job (drop (i + 1) held)))) c.in_default.ensures
     ∙ sym (at_drop_more (λ ms. holder_among p n (map job ms)) held i no_message c.loop-m-test.true) ∙ c.loop-m.invariant
 
 pub returns : goal.returns

@@ -4,7 +4,7 @@ use Rattle.jobs.specs.Meetings.{earliest_from, meetings}
 use Rattle.jobs.specs.Ways.{way_takes}
 use Rattle.jobs.proofs.Walks.{way_first, takes_past, each_more, each_none}
 use Rattle.jobs.proofs.message.nearest.Goals as goal
-use Rattle.jobs.proofs.message.nearest.Goals.{in-Some, in-default}
+use Rattle.jobs.proofs.message.nearest.Goals.{in-Some, in_default}
 
 pub loop-place-init : goal.loop-place-init
 loop-place-init g c =
@@ -15,11 +15,11 @@ pub loop-place-preserved : goal.loop-place-preserved
 loop-place-preserved g c =
     let s = over g.F.Fabric.meaning c.args.fabric.now in
     let ys = way_takes s c.args.held.now in
-    elim c.match-stay-on.branch [
-      | in-Some w ↦ each_more s c.args.own.now c.loop-place.place c.args.name c.loop-place.best c.match-stay-on.best _ ys w.in-Some.stay
-          w.in-Some.ensures.0 w.in-Some.ensures.1 (w.best-is ∙ w.nearest-to-best.ensures) c.loop-place.invariant
-      | in-default w ↦ each_none s c.args.own.now c.loop-place.place c.args.name c.loop-place.best c.match-stay-on.best _ ys
-          w.in-default.ensures w.best-is c.loop-place.invariant
+    elim c.match-stay_on.branch [
+      | in-Some w ↦ each_more s c.args.own.now c.loop-place.place c.args.name c.loop-place.best c.match-stay_on.best _ ys w.in-Some.stay
+          w.in-Some.ensures.0 w.in-Some.ensures.1 (w.best-is ∙ w.nearest_to-best.ensures) c.loop-place.invariant
+      | in_default w ↦ each_none s c.args.own.now c.loop-place.place c.args.name c.loop-place.best c.match-stay_on.best _ ys
+          w.in_default.ensures w.best-is c.loop-place.invariant
     ]
 
 pub returns : goal.returns

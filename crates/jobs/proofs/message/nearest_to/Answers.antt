@@ -5,7 +5,7 @@ use Rattle.jobs.specs.Takes.{link}
 use Rattle.jobs.specs.Ways.{stay_take}
 use Rattle.jobs.proofs.Walks.{way_first, takes_past, near_more, near_none}
 use Rattle.jobs.proofs.message.nearest_to.Goals as goal
-use Rattle.jobs.proofs.message.nearest_to.Goals.{in-Some, in-default}
+use Rattle.jobs.proofs.message.nearest_to.Goals.{in-Some, in_default}
 
 pub loop-place-init : goal.loop-place-init
 loop-place-init g c =
@@ -15,12 +15,12 @@ pub loop-place-preserved : goal.loop-place-preserved
 loop-place-preserved g c =
     let s = over g.F.Fabric.meaning c.args.fabric.now in
     let x = stay_take link c.args.own.now in
-    elim c.match-stay-on.branch [
-      | in-Some w ↦ near_more s c.args.held.now c.loop-place.place c.args.name c.loop-place.best c.match-stay-on.best _ x w.in-Some.stay
+    elim c.match-stay_on.branch [
+      | in-Some w ↦ near_more s c.args.held.now c.loop-place.place c.args.name c.loop-place.best c.match-stay_on.best _ x w.in-Some.stay
           w.in-Some.ensures.0 w.in-Some.ensures.1
-          (w.best-is ∙ w.earlier-best.ensures ∙ ap (sooner c.loop-place.best) w.meeting-at.ensures.links) c.loop-place.invariant
-      | in-default w ↦ near_none s c.args.held.now c.loop-place.place c.args.name c.loop-place.best c.match-stay-on.best _ x
-          w.in-default.ensures w.best-is c.loop-place.invariant
+          (w.best-is ∙ w.earlier-best.ensures ∙ ap (sooner c.loop-place.best) w.meeting_at.ensures.links) c.loop-place.invariant
+      | in_default w ↦ near_none s c.args.held.now c.loop-place.place c.args.name c.loop-place.best c.match-stay_on.best _ x
+          w.in_default.ensures w.best-is c.loop-place.invariant
     ]
 
 pub returns : goal.returns

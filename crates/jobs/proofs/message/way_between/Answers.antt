@@ -2,9 +2,11 @@ use Rattle.std.proofs.Common.{arith}
 use Rattle.fabric.proofs.Laws.{answer_64}
 use Rattle.jobs.proofs.message.way_between.Goals as goal
 
-pub invariant-of-result : goal.invariant-of-result
-invariant-of-result g c =
-    let laws = g.F.Fabric.lawful c.args.fabric.now in (
-      answer_64 laws c.args.source.now.core c.args.destination.now.core g.F.Fabric.bounded c.in-ok-links.links c.in-ok-links.ensures,
-      (omega arith, (omega (arith, laws.low_delay, c.hop-delay.ensures), tt)),
-    )
+pub invariant_of-result : goal.invariant_of-result
+invariant_of-result g c =
+    let laws = g.F.Fabric.lawful c.args.fabric.now in
+    record {
+      few = answer_64 laws c.args.source.now.core c.args.destination.now.core g.F.Fabric.bounded c.in_ok-links.links c.in_ok-links.ensures;
+      soon = omega arith;
+      slow = omega (arith, laws.low_delay, c.hop_delay.ensures);
+    }

@@ -5,17 +5,17 @@ use Rattle.jobs.proofs.Delays.{free, no_route, way_free, way_late, way_meets, wa
 use Rattle.jobs.proofs.Searches.{leap, leap_all, search_found, search_none}
 use Rattle.jobs.proofs.placing.first_delay.Goals as goal
 
-pub returns-in-err-way : goal.returns-in-err-way
-returns-in-err-way g c =
+pub returns-in_err-way : goal.returns-in_err-way
+returns-in_err-way g c =
     let f = over g.F.Fabric.meaning c.args.fabric.now in
     let js : Jobs = record { tasks = c.args.tasks.now; messages = c.args.held.now } in
     let s = c.args.source.now in
     let d = c.args.destination.now in
     let m = c.args.m.now in
-    c.from-residual.ensures ∙ search_none (free f js s d m) s.period (λ y l. no_route f js s d m c.in-err-way.ensures y)
+    c.from_residual.ensures ∙ search_none (free f js s d m) s.period (λ y l. no_route f js s d m c.in_err-way.ensures y)
 
-pub returns-then-is-some : goal.returns-then-is-some
-returns-then-is-some g c =
+pub returns-then-is_some : goal.returns-then-is_some
+returns-then-is_some g c =
     let f = over g.F.Fabric.meaning c.args.fabric.now in
     let js : Jobs = record { tasks = c.args.tasks.now; messages = c.args.held.now } in
     let s = c.args.source.now in
@@ -24,11 +24,11 @@ returns-then-is-some g c =
     let v = c.loop-delay.delay in
     search_none (free f js s d m) s.period
     (λ y l. leap_all (free f js s d m) v c.loop-delay.invariant
-    (way_late f js s d m v c.at-message.result c.in-ok-way.way c.at-message.ensures c.in-ok-way.ensures (grind arith)
-    (c.if-is-some.ensures ∙ ap is_some c.late-by.ensures)) y (grind arith))
+    (way_late f js s d m v c.at-message.result c.in_ok-way.way c.at-message.ensures c.in_ok-way.ensures (grind arith)
+    (c.if-is_some.ensures ∙ ap is_some c.late_by.ensures)) y (grind arith))
 
-pub returns-in-default : goal.returns-in-default
-returns-in-default g c =
+pub returns-in_default : goal.returns-in_default
+returns-in_default g c =
     let f = over g.F.Fabric.meaning c.args.fabric.now in
     let js : Jobs = record { tasks = c.args.tasks.now; messages = c.args.held.now } in
     let s = c.args.source.now in
@@ -36,38 +36,38 @@ returns-in-default g c =
     let m = c.args.m.now in
     let v = c.loop-delay.delay in
     search_found (free f js s d m) s.period v (omega arith) c.loop-delay.invariant
-    (way_free f js s d m v c.at-message.result c.in-ok-way.way c.at-message.ensures c.in-ok-way.ensures
-    (c.if-is-some.ensures ∙ ap is_some c.late-by.ensures) c.in-default.ensures)
+    (way_free f js s d m v c.at-message.result c.in_ok-way.way c.at-message.ensures c.in_ok-way.ensures
+    (c.if-is_some.ensures ∙ ap is_some c.late_by.ensures) c.in_default.ensures)
 
-pub returns-in-err-wait : goal.returns-in-err-wait
-returns-in-err-wait g c =
+pub returns-in_err-wait : goal.returns-in_err-wait
+returns-in_err-wait g c =
     let f = over g.F.Fabric.meaning c.args.fabric.now in
     let js : Jobs = record { tasks = c.args.tasks.now; messages = c.args.held.now } in
     let s = c.args.source.now in
     let d = c.args.destination.now in
     let m = c.args.m.now in
     let v = c.loop-delay.delay in
-    c.from-residual-in-err-wait.ensures
+    c.from_residual-in_err-wait.ensures
     ∙ search_none (free f js s d m) s.period
     (λ y l. leap_all (free f js s d m) v c.loop-delay.invariant
-    (way_meets f js s d m v c.at-message.result c.in-ok-way.way c.at-message.ensures c.in-ok-way.ensures None c.in-err-wait.ensures) y (grind arith))
+    (way_meets f js s d m v c.at-message.result c.in_ok-way.way c.at-message.ensures c.in_ok-way.ensures None c.in_err-wait.ensures) y (grind arith))
 
-pub returns-in-err-delay : goal.returns-in-err-delay
-returns-in-err-delay g c =
+pub returns-in_err-delay : goal.returns-in_err-delay
+returns-in_err-delay g c =
     let f = over g.F.Fabric.meaning c.args.fabric.now in
     let js : Jobs = record { tasks = c.args.tasks.now; messages = c.args.held.now } in
     let s = c.args.source.now in
     let d = c.args.destination.now in
     let m = c.args.m.now in
     let v = c.loop-delay.delay in
-    let w = c.in-ok-wait.wait in
+    let w = c.in_ok-wait.wait in
     let few : c.args.source.now.period ≤ 4294967296 = grind arith in
-    let past : 4294967296 ≤ v + c.max.result = ⊎_elim (λ l. absurd (c.in-err-delay.ensures (omega arith))) (λ l. l) (cases_lt (v + c.max.result) 4294967296) in
-    c.from-residual-in-err-delay.ensures
+    let past : 4294967296 ≤ v + c.max.result = ⊎_elim (λ l. absurd (c.in_err-delay.ensures (omega arith))) (λ l. l) (cases_lt (v + c.max.result) 4294967296) in
+    c.from_residual-in_err-delay.ensures
     ∙ search_none (free f js s d m) s.period
     (λ y l. leap (free f js s d m) v c.loop-delay.invariant w
-    (way_met f js s d m v c.at-message.result c.in-ok-way.way c.at-message.ensures c.in-ok-way.ensures c.in-Some.meeting c.in-Some.ensures)
-    (way_meets f js s d m v c.at-message.result c.in-ok-way.way c.at-message.ensures c.in-ok-way.ensures (Some w) c.in-ok-wait.ensures)
+    (way_met f js s d m v c.at-message.result c.in_ok-way.way c.at-message.ensures c.in_ok-way.ensures c.in-Some.meeting c.in-Some.ensures)
+    (way_meets f js s d m v c.at-message.result c.in_ok-way.way c.at-message.ensures c.in_ok-way.ensures (Some w) c.in_ok-wait.ensures)
     y (omega (arith, c.max.ensures)) (omega arith))
 
 pub loop-delay-preserved : goal.loop-delay-preserved
@@ -78,11 +78,11 @@ loop-delay-preserved g c =
     let d = c.args.destination.now in
     let m = c.args.m.now in
     let v = c.loop-delay.delay in
-    let w = c.in-ok-wait.wait in
+    let w = c.in_ok-wait.wait in
     λ y l. leap (free f js s d m) v c.loop-delay.invariant w
-    (way_met f js s d m v c.at-message.result c.in-ok-way.way c.at-message.ensures c.in-ok-way.ensures c.in-Some.meeting c.in-Some.ensures)
-    (way_meets f js s d m v c.at-message.result c.in-ok-way.way c.at-message.ensures c.in-ok-way.ensures (Some w) c.in-ok-wait.ensures)
-    y (omega (arith, c.max.ensures, c.in-ok-delay.ensures)) (grind arith)
+    (way_met f js s d m v c.at-message.result c.in_ok-way.way c.at-message.ensures c.in_ok-way.ensures c.in-Some.meeting c.in-Some.ensures)
+    (way_meets f js s d m v c.at-message.result c.in_ok-way.way c.at-message.ensures c.in_ok-way.ensures (Some w) c.in_ok-wait.ensures)
+    y (omega (arith, c.max.ensures, c.in_ok-delay.ensures)) (grind arith)
 
 pub returns : goal.returns
 returns g c =

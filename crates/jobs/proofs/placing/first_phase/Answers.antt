@@ -30,51 +30,51 @@ fails : (t : OpenTask) (held : List Task) (v : ℕ) (u : Task) (wait : Option �
 fails t held v u wait e still =
     phase_fails t (map held_task held) v wait (subst (λ (x : Task). StillMet (task_takes x) (map held_task held) wait) e still)
 
-pub returns-in-err-last : goal.returns-in-err-last
-returns-in-err-last c =
-    c.from-residual.ensures
-    ∙ search_none (free c.args.t.now c.args.held.now) (count c.args.t.now) (λ m l. absurd (c.in-err-last.ensures (omega arith)))
+pub returns-in_err-last : goal.returns-in_err-last
+returns-in_err-last c =
+    c.from_residual.ensures
+    ∙ search_none (free c.args.t.now c.args.held.now) (count c.args.t.now) (λ m l. absurd (c.in_err-last.ensures (omega arith)))
 
-pub returns-in-default : goal.returns-in-default
-returns-in-default c =
+pub returns-in_default : goal.returns-in_default
+returns-in_default c =
     let t = c.args.t.now in
     let held = c.args.held.now in
     let v = c.loop-phase.phase in
-    search_found (free t held) (count t) v (omega (arith, c.in-ok-last.ensures)) c.loop-phase.invariant
-    (met_at t held v c.at-task.result None c.at-task.ensures c.in-default.ensures)
+    search_found (free t held) (count t) v (omega (arith, c.in_ok-last.ensures)) c.loop-phase.invariant
+    (met_at t held v c.at-task.result None c.at-task.ensures c.in_default.ensures)
 
-pub returns-in-err-wait : goal.returns-in-err-wait
-returns-in-err-wait c =
+pub returns-in_err-wait : goal.returns-in_err-wait
+returns-in_err-wait c =
     let t = c.args.t.now in
     let held = c.args.held.now in
     let v = c.loop-phase.phase in
-    c.from-residual-in-err-wait.ensures
+    c.from_residual-in_err-wait.ensures
     ∙ search_none (free t held) (count t)
-    (λ m l. leap_all (free t held) v c.loop-phase.invariant (fails t held v c.at-task.result None c.at-task.ensures c.in-err-wait.ensures) m (omega arith))
+    (λ m l. leap_all (free t held) v c.loop-phase.invariant (fails t held v c.at-task.result None c.at-task.ensures c.in_err-wait.ensures) m (omega arith))
 
-pub returns-in-err-phase : goal.returns-in-err-phase
-returns-in-err-phase c =
+pub returns-in_err-phase : goal.returns-in_err-phase
+returns-in_err-phase c =
     let t = c.args.t.now in
     let held = c.args.held.now in
     let v = c.loop-phase.phase in
-    let w = c.in-ok-wait.wait in
-    let past : 4294967296 ≤ v + c.max.result = ⊎_elim (λ l. absurd (c.in-err-phase.ensures (omega arith))) (λ l. l) (cases_lt (v + c.max.result) 4294967296) in
-    c.from-residual-in-err-phase.ensures
+    let w = c.in_ok-wait.wait in
+    let past : 4294967296 ≤ v + c.max.result = ⊎_elim (λ l. absurd (c.in_err-phase.ensures (omega arith))) (λ l. l) (cases_lt (v + c.max.result) 4294967296) in
+    c.from_residual-in_err-phase.ensures
     ∙ search_none (free t held) (count t)
     (λ m l. leap (free t held) v c.loop-phase.invariant w (met_at t held v c.at-task.result (Some c.in-Some.meeting) c.at-task.ensures c.in-Some.ensures)
-    (fails t held v c.at-task.result (Some w) c.at-task.ensures c.in-ok-wait.ensures) m (omega (arith, c.max.ensures)) (omega arith))
+    (fails t held v c.at-task.result (Some w) c.at-task.ensures c.in_ok-wait.ensures) m (omega (arith, c.max.ensures)) (omega arith))
 
 pub loop-phase-preserved : goal.loop-phase-preserved
 loop-phase-preserved c =
     let t = c.args.t.now in
     let held = c.args.held.now in
     let v = c.loop-phase.phase in
-    let w = c.in-ok-wait.wait in
+    let w = c.in_ok-wait.wait in
     λ m l. leap (free t held) v c.loop-phase.invariant w (met_at t held v c.at-task.result (Some c.in-Some.meeting) c.at-task.ensures c.in-Some.ensures)
-    (fails t held v c.at-task.result (Some w) c.at-task.ensures c.in-ok-wait.ensures) m
-    (omega (arith, c.max.ensures, c.in-ok-phase.ensures)) (omega arith)
+    (fails t held v c.at-task.result (Some w) c.at-task.ensures c.in_ok-wait.ensures) m
+    (omega (arith, c.max.ensures, c.in_ok-phase.ensures)) (omega arith)
 
 pub returns : goal.returns
 returns c =
     search_none (free c.args.t.now c.args.held.now) (count c.args.t.now)
-    (λ m l. c.loop-phase.invariant m (omega (arith, c.in-ok-last.ensures)))
+    (λ m l. c.loop-phase.invariant m (omega (arith, c.in_ok-last.ensures)))

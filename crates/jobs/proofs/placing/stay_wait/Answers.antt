@@ -9,8 +9,8 @@ returns c =
     let held = c.args.held.now in
     let same = eq-eqb own.place held.place c.if-own-held.false in
     record {
-      cores = stays_meet (core own.place) (core held.place) own.hold held.hold c.in-Some.one c.in-Some-hold.other c.least-wait.result
-          c.in-Some.is c.in-Some-hold.is same c.least-wait.ensures;
-      links = stays_meet (link own.place) (link held.place) own.hold held.hold c.in-Some.one c.in-Some-hold.other c.least-wait.result
-          c.in-Some.is c.in-Some-hold.is same c.least-wait.ensures;
+      cores = stays_meet (core own.place) (core held.place) own.hold held.hold c.in-Some.one c.in-Some-hold.other c.least_wait.result
+          c.in-Some.is c.in-Some-hold.is same c.least_wait.ensures;
+      links = stays_meet (link own.place) (link held.place) own.hold held.hold c.in-Some.one c.in-Some-hold.other c.least_wait.result
+          c.in-Some.is c.in-Some-hold.is same c.least_wait.ensures;
     }

@@ -5,5 +5,5 @@ use Rattle.jobs.proofs.placing.task_wait.Goals as goal
 
 pub returns-in-Some : goal.returns-in-Some
 returns-in-Some c =
-    task_meets c.args.held.now c.args.t.now c.in-Some.other c.args.name (stay_take core c.stay-of.result) (stay_take core c.stay-of-in-Some.result)
-    c.stay-wait.result c.in-Some.ensures c.stay-of.ensures c.stay-of-in-Some.ensures c.stay-wait.ensures.cores
+    task_meets c.args.held.now c.args.t.now c.in-Some.other c.args.name (stay_take core c.stay_of.result) (stay_take core c.stay_of-in-Some.result)
+    c.stay_wait.result c.in-Some.ensures c.stay_of.ensures c.stay_of-in-Some.ensures c.stay_wait.ensures.cores

@@ -10,7 +10,7 @@ abbrev no_task : Task
 no_task = record { name = 0; core = 0; period = 0; phase = 0; width = 0 }
 
 pub loop-u-init : goal.loop-u-init
-loop-u-init c = (c.stay-of-own.ensures, refl)
+loop-u-init c = (c.stay_of-own.ensures, refl)
 
 pub loop-u-preserved : goal.loop-u-preserved
 loop-u-preserved c =
@@ -18,8 +18,8 @@ loop-u-preserved c =
     let held = c.args.held.now in
     let i = c.loop-u.u-index in
     let u = get_or held i no_task in
-    let meets : c.meeting-at.result ≡ met u.name (task_take t) (task_take u) =
-    c.meeting-at.ensures.cores ∙ ap (λ x. met u.name x (stay_take core c.stay-of.result)) c.loop-u.invariant.0 ∙ ap (met u.name (task_take t)) c.stay-of.ensures in (
+    let meets : c.meeting_at.result ≡ met u.name (task_take t) (task_take u) =
+    c.meeting_at.ensures.cores ∙ ap (λ x. met u.name x (stay_take core c.stay_of.result)) c.loop-u.invariant.0 ∙ ap (met u.name (task_take t)) c.stay_of.ensures in (
       c.loop-u.invariant.0,
       ap (λ b. earliest_from b (all_meetings (task_takes t) (map held_task (drop (i + 1) held)))) (c.earlier-best.ensures ∙ ap (sooner c.loop-u.best) meets)
           ∙ sym (at_drop_more (λ us. earliest_from c.loop-u.best (all_meetings (task_takes t) (map held_task us))) held i no_task c.loop-u-test.true) ∙ c.loop-u.invariant.1,

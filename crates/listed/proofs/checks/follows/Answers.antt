@@ -4,8 +4,8 @@ use Rattle.std.proofs.lemmas.Bool.{eq-eqb, ne_eqb, and_left}
 use Rattle.listed.specs.Records.{link_at, hop, chain_good}
 use Rattle.listed.proofs.checks.follows.Goals as goal
 
-pub returns-in-default : goal.returns-in-default
-returns-in-default c =
+pub returns-in_default : goal.returns-in_default
+returns-in_default c =
     let i = c.loop-n.n-index in
     let ls = c.args.links.now in
     let xs = c.args.numbers.now in

@@ -2,7 +2,7 @@ use Rattle.std.proofs.Common.{◌≡◌, ◌+◌, ◌-◌, None, sym, ◌∙◌,
 use Rattle.listed.specs.Records.{route_count, route_at, seek}
 use Rattle.listed.proofs.Finds.{seek_here, seek_past, seek_gap}
 use Rattle.listed.proofs.routing.find.Goals as goal
-use Rattle.listed.proofs.routing.find.Goals.{in-Some+else-route-from, else-route-from-via-then-route-from+else-route-to, else-route-from-via-else-route-from, in-default}
+use Rattle.listed.proofs.routing.find.Goals.{in-Some+else-route-from, else-route-from-via-then-route-from+else-route-to, else-route-from-via-else-route-from, in_default}
 
 pub returns-then-route-to : goal.returns-then-route-to
 returns-then-route-to c =
@@ -21,12 +21,12 @@ loop-k-preserved c =
     let k = c.loop-k.k in
     let t = route_count rs in
     let passed : seek rs a b k (t - k) ≡ seek rs a b (k + 1) (t - (k + 1)) =
-    elim c.match-route-at.branch [
+    elim c.match-route_at.branch [
       | in-Some+else-route-from w ↦
           elim w.else-route-from.branch [
             | else-route-from-via-then-route-from+else-route-to v ↦ seek_past rs a b k t w.in-Some.route c.loop-k-test.true (sym w.in-Some.ensures) (λ p q. v.if-route-to.false q)
             | else-route-from-via-else-route-from v ↦ seek_past rs a b k t w.in-Some.route c.loop-k-test.true (sym w.in-Some.ensures) (λ p q. v.if-route-from.false p)
           ]
-      | in-default w ↦ let here : route_at rs k ≡ None = search rules in seek_gap rs a b k t c.loop-k-test.true here
+      | in_default w ↦ let here : route_at rs k ≡ None = search rules in seek_gap rs a b k t c.loop-k-test.true here
     ] in
     c.loop-k.invariant ∙ passed

@@ -7,6 +7,6 @@ use Rattle.records.proofs.tables.put_at.Goals as goal
 pub returns : goal.returns
 returns g c =
     record {
-      after = turned_in c.args.table.now c.args.count c.args.at c.args.x c.rotate-right.new.self c.requires.room c.requires.within c.rotate-right.ensures.after;
-      rest = turned_in_rest c.args.table.now c.args.count c.args.at c.args.x c.rotate-right.new.self c.requires.room c.requires.within (c.rotate-right.ensures.len ∙ length-between (set c.args.table.now c.args.count c.args.x) c.args.at (c.args.count + 1) (omega (arith, length-set c.args.table.now c.args.count c.args.x)));
+      after = turned_in c.args.table.now c.args.count c.args.at c.args.x c.rotate_right.new.self c.requires.room c.requires.within c.rotate_right.ensures.after;
+      rest = turned_in_rest c.args.table.now c.args.count c.args.at c.args.x c.rotate_right.new.self c.requires.room c.requires.within (c.rotate_right.ensures.len ∙ length-between (set c.args.table.now c.args.count c.args.x) c.args.at (c.args.count + 1) (omega (arith, length-set c.args.table.now c.args.count c.args.x)));
     }

@@ -7,7 +7,7 @@ use Rattle.records.proofs.tables.take_at.Goals as goal
 pub returns : goal.returns
 returns g c =
     record {
-      after = turned_out c.args.table.now c.args.count c.args.at c.rotate-left.new.self c.requires.room c.requires.within c.rotate-left.ensures.after;
-      spare = turned_out_spare c.args.table.now c.args.count c.args.at c.rotate-left.new.self c.requires.room c.requires.within c.rotate-left.ensures.after;
-      rest = drop-put_mid c.args.at (c.args.count - c.args.at) c.args.table.now c.rotate-left.new.self c.args.count (omega arith) (omega arith) (c.rotate-left.ensures.len ∙ length-between c.args.table.now c.args.at c.args.count c.requires.room);
+      after = turned_out c.args.table.now c.args.count c.args.at c.rotate_left.new.self c.requires.room c.requires.within c.rotate_left.ensures.after;
+      spare = turned_out_spare c.args.table.now c.args.count c.args.at c.rotate_left.new.self c.requires.room c.requires.within c.rotate_left.ensures.after;
+      rest = drop-put_mid c.args.at (c.args.count - c.args.at) c.args.table.now c.rotate_left.new.self c.args.count (omega arith) (omega arith) (c.rotate_left.ensures.len ∙ length-between c.args.table.now c.args.at c.args.count c.requires.room);
     }

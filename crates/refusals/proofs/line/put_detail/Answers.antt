@@ -19,7 +19,7 @@ returns-in-Slack c =
     let f : SFits w64 z = search rules in
     let same = to_z-of_z w64 z f in
     let a = starts (codes " ") (omega arith) c.put-at.ensures.end c.put-at.ensures.holds in
-    let a = goes_on (signed_decimal (to_z w64 (of_z w64 z))) a c.put-i64.ensures.end c.put-i64.ensures.holds in
+    let a = goes_on (signed_decimal (to_z w64 (of_z w64 z))) a c.put_i64.ensures.end c.put_i64.ensures.holds in
     record { end = rw e (rw same at a.long); bound = omega arith; holds = rw e (rw same at a.held) }
 
 -- a space before each of the three numbers
@@ -27,9 +27,9 @@ pub returns-in-Meeting : goal.returns-in-Meeting
 returns-in-Meeting c =
     let e = ap detail_text c.in-Meeting.is in
     let a = starts (codes " ") (omega arith) c.put-at-in-Meeting.ensures.end c.put-at-in-Meeting.ensures.holds in
-    let a = goes_on (decimal c.in-Meeting.instant) a c.put-u64-at.ensures.end c.put-u64-at.ensures.holds in
+    let a = goes_on (decimal c.in-Meeting.instant) a c.put_u64-at.ensures.end c.put_u64-at.ensures.holds in
     let a = goes_on (codes " ") a c.put-at-in-Meeting-2.ensures.end c.put-at-in-Meeting-2.ensures.holds in
-    let a = goes_on (decimal c.in-Meeting.held) a c.put-u16-at.ensures.end c.put-u16-at.ensures.holds in
+    let a = goes_on (decimal c.in-Meeting.held) a c.put_u16-at.ensures.end c.put_u16-at.ensures.holds in
     let a = goes_on (codes " ") a c.put-at-in-Meeting-3.ensures.end c.put-at-in-Meeting-3.ensures.holds in
-    let a = goes_on (decimal c.in-Meeting.place) a c.put-u16.ensures.end c.put-u16.ensures.holds in
+    let a = goes_on (decimal c.in-Meeting.place) a c.put_u16.ensures.end c.put_u16.ensures.holds in
     record { end = rw e a.long; bound = omega arith; holds = rw e a.held }

@@ -12,20 +12,20 @@ returns-then-n-lt10 t c =
     record { end = p.long; holds = p.holds }
 
 -- from ten on: the digits of the tenth part, then the last digit
-pub put-number-end-requires : goal.put-number-end-requires
-put-number-end-requires t c = let h = front_room c.args.n c.if-n-lt10.false (search rules) in (search rules, omega arith)
+pub put_number-end-requires : goal.put_number-end-requires
+put_number-end-requires t c = let h = front_room c.args.n c.if-n-lt10.false (search rules) in (search rules, omega arith)
 
 pub bounds-out-end : goal.bounds-out-end
 bounds-out-end t c =
-    let p = next_digit c.args.out.now _ c.args.at _ c.args.n c.if-n-lt10.false (search rules) c.put-number-end.ensures.end c.put-number-end.ensures.holds c.requires in
+    let p = next_digit c.args.out.now _ c.args.at _ c.args.n c.if-n-lt10.false (search rules) c.put_number-end.ensures.end c.put_number-end.ensures.holds c.requires in
     omega (arith, p.within)
 
-pub overflow-add-result-2 : goal.overflow-add-result-2
-overflow-add-result-2 t c =
-    let p = next_digit c.args.out.now _ c.args.at _ c.args.n c.if-n-lt10.false (search rules) c.put-number-end.ensures.end c.put-number-end.ensures.holds c.requires in
+pub overflow_add-result-2 : goal.overflow_add-result-2
+overflow_add-result-2 t c =
+    let p = next_digit c.args.out.now _ c.args.at _ c.args.n c.if-n-lt10.false (search rules) c.put_number-end.ensures.end c.put_number-end.ensures.holds c.requires in
     search rules
 
 pub returns : goal.returns
 returns t c =
-    let p = next_digit c.args.out.now _ c.args.at _ c.args.n c.if-n-lt10.false (search rules) c.put-number-end.ensures.end c.put-number-end.ensures.holds c.requires in
+    let p = next_digit c.args.out.now _ c.args.at _ c.args.n c.if-n-lt10.false (search rules) c.put_number-end.ensures.end c.put_number-end.ensures.holds c.requires in
     record { end = p.long; holds = p.holds }

@@ -10,5 +10,5 @@ returns c =
     let whole : length text ≡ c.args.at + length text - c.args.at = omega arith in
     record {
       end = refl;
-      holds = put_mid-paste c.args.at _ c.args.out.now _ text (length text) c.copy-from-slice.ensures.after whole refl ∙ written_is c.args.out.now c.args.at text;
+      holds = put_mid-paste c.args.at _ c.args.out.now _ text (length text) c.copy_from_slice.ensures.after whole refl ∙ written_is c.args.out.now c.args.at text;
     }

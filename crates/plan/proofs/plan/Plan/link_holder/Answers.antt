@@ -20,7 +20,7 @@ returns g c =
     c.link_holder.ensures
     ∙ ap (λ k. holder_among place n (map (held_message s (take k p.tasks)) (take (p.message_count - 0) p.messages))) (sub-zero p.task_count)
     ∙ ap (λ k. holder_among place n (map (held_message s (jobs p).tasks) (take k p.messages))) (sub-zero p.message_count) in
-    let below : c.args.link < s.network.links = omega (arith, c.link-numbers.ensures) in
+    let below : c.args.link < s.network.links = omega (arith, c.link_numbers.ensures) in
     record {
       answer = ap Ok told ∙ sym (cond-false (leb s.network.links c.args.link) _ _ (lt-leb s.network.links c.args.link below));
       holder = subst (λ (o : Option (ℕ × ℕ)). HolderIs held place n o) (sym told) (holder_is place n held (messages_fit s (jobs p).tasks (jobs p).messages));

@@ -15,22 +15,22 @@ returns g c =
     let s = setting g.F.Fabric.meaning p in
     let js = jobs p in
     let mid = c.load_tasks.new.self in
-    let laid : Laid_out c.args.part.now c.in-ok-job.job.tasks.bytes.now c.in-ok-job.job.messages.bytes.now = c.in-ok-job.ensures in
+    let laid : Laid_out c.args.part.now c.in_ok-job.job.tasks.bytes.now c.in_ok-job.job.messages.bytes.now = c.in_ok-job.ensures in
     let ts = laid.some_tasks in
     let ms = laid.some_messages in
     let same : setting g.F.Fabric.meaning mid ≡ s = ap (λ f. over g.F.Fabric.meaning f.now) c.load_tasks.ensures.fabric in
-    let taken : Ok c.in-ok-load-tasks.field-0 ≡ (load_tasks s js 0 ts).0 = c.in-ok-load-tasks.ensures.answer ts laid.task_records in
+    let taken : Ok c.in_ok-load_tasks.field-0 ≡ (load_tasks s js 0 ts).0 = c.in_ok-load_tasks.ensures.answer ts laid.task_records in
     let held : jobs mid ≡ (load_tasks s js 0 ts).1 = c.load_tasks.ensures.after ts laid.task_records in
-    let sent : Ok c.in-ok-load-messages.field-0 ≡ (load_messages s (jobs mid) 0 ms).0 =
-    c.in-ok-load-messages.ensures.answer ms laid.message_records ∙ ap (λ n. (load_messages n (jobs mid) 0 ms).0) same in
+    let sent : Ok c.in_ok-load_messages.field-0 ≡ (load_messages s (jobs mid) 0 ms).0 =
+    c.in_ok-load_messages.ensures.answer ms laid.message_records ∙ ap (λ n. (load_messages n (jobs mid) 0 ms).0) same in
     let after : jobs c.load_messages.new.self ≡ (load_messages s (jobs mid) 0 ms).1 =
     c.load_messages.ensures.after ms laid.message_records ∙ ap (λ n. (load_messages n (jobs mid) 0 ms).1) same in
     let whole : load s js c.args.part.now ≡ (past_messages (length ts) (length ms) (load_messages s (jobs mid) 0 ms).0, (load_messages s (jobs mid) 0 ms).1) =
     ap (loaded s js) laid.whole
     ∙ ap (λ r. past_tasks s ts ms r (load_tasks s js 0 ts).1) (sym taken)
     ∙ ap (λ j. (past_messages (length ts) (length ms) (load_messages s j 0 ms).0, (load_messages s j 0 ms).1)) (sym held) in
-    let tasks : c.count.result ≡ length ts = c.count.ensures ∙ sym (section_length task_of 16 c.in-ok-job.job.tasks.bytes.now ts laid.task_records) in
-    let messages : c.count-2.result ≡ length ms = c.count-2.ensures ∙ sym (section_length message_of 16 c.in-ok-job.job.messages.bytes.now ms laid.message_records) in
+    let tasks : c.count.result ≡ length ts = c.count.ensures ∙ sym (section_length task_of 16 c.in_ok-job.job.tasks.bytes.now ts laid.task_records) in
+    let messages : c.count-2.result ≡ length ms = c.count-2.ensures ∙ sym (section_length message_of 16 c.in_ok-job.job.messages.bytes.now ms laid.message_records) in
     let answer : Ok (c.count.result, c.count-2.result) ≡ (load s js c.args.part.now).0 =
     ap (λ (n : ℕ). Ok (n, c.count-2.result)) tasks ∙ ap (λ (n : ℕ). Ok (length ts, n)) messages ∙ ap (past_messages (length ts) (length ms)) sent ∙ sym (ap (λ r. r.0) whole) in
     record {

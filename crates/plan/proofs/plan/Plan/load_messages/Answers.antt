@@ -9,7 +9,7 @@ use Rattle.plan.specs.Held.{jobs, setting}
 use Rattle.plan.specs.Loading.{load_messages}
 use Rattle.plan.proofs.Turns.{turn_on, turn_stop, turn_end, on_record, no_record}
 use Rattle.plan.proofs.plan.Plan.load_messages.Goals as goal
-use Rattle.plan.proofs.plan.Plan.load_messages.Goals.{in-Some+in-default-offer-message, in-default}
+use Rattle.plan.proofs.plan.Plan.load_messages.Goals.{in-Some+in-default-offer-message, in_default}
 
 pub loop-i-init : goal.loop-i-init
 loop-i-init g c = (refl, λ ms e. refl)
@@ -26,13 +26,13 @@ loop-i-preserved g c =
         λ ms e.
             let at = on_record message_of 16 c.args.messages.now.bytes.now ms e c.loop-i.i lt w.in-Some.m w.in-Some.ensures in
             turn_on (message_refusal s) with_message ms c.loop-i.i w.in-Some.m w.in-Some.m js (jobs c.match-get.self) _ _ at.0 at.1
-            (w.in-default-offer-message.ensures.answer ∙ ap (λ n. (offer_message n js w.in-Some.m).0) same)
-            (ap jobs w.self-is ∙ w.in-default-offer-message.ensures.after ∙ ap (λ n. (offer_message n js w.in-Some.m).1) same)
+            (w.in_default-offer_message.ensures.answer ∙ ap (λ n. (offer_message n js w.in-Some.m).0) same)
+            (ap jobs w.self-is ∙ w.in_default-offer_message.ensures.after ∙ ap (λ n. (offer_message n js w.in-Some.m).1) same)
             (c.loop-i.invariant.1 ms e),
       )
-      | in-default w ↦ (
+      | in_default w ↦ (
         ap (λ p. p.fabric) w.self-is ∙ c.loop-i.invariant.0,
-        λ ms e. absurd (no_record message_of 16 c.args.messages.now.bytes.now ms e c.loop-i.i lt (record { name = 0; source = 0; destination = 0; kind = 0; delay = 0; width = 0 }) w.in-default.ensures),
+        λ ms e. absurd (no_record message_of 16 c.args.messages.now.bytes.now ms e c.loop-i.i lt (record { name = 0; source = 0; destination = 0; kind = 0; delay = 0; width = 0 }) w.in_default.ensures),
       )
     ]
 

@@ -9,7 +9,7 @@ use Rattle.plan.specs.Held.{jobs, setting}
 use Rattle.plan.specs.Loading.{load_tasks}
 use Rattle.plan.proofs.Turns.{turn_on, turn_stop, turn_end, on_record, no_record}
 use Rattle.plan.proofs.plan.Plan.load_tasks.Goals as goal
-use Rattle.plan.proofs.plan.Plan.load_tasks.Goals.{in-Some+in-default-offer-task, in-default}
+use Rattle.plan.proofs.plan.Plan.load_tasks.Goals.{in-Some+in-default-offer-task, in_default}
 
 pub loop-i-init : goal.loop-i-init
 loop-i-init g c = (refl, λ ts e. refl)
@@ -26,13 +26,13 @@ loop-i-preserved g c =
         λ ts e.
             let at = on_record task_of 16 c.args.tasks.now.bytes.now ts e c.loop-i.i lt w.in-Some.t w.in-Some.ensures in
             turn_on (task_refusal s.network.nodes) with_task ts c.loop-i.i w.in-Some.t w.in-Some.t js (jobs c.match-get.self) _ _ at.0 at.1
-            (w.in-default-offer-task.ensures.answer ∙ ap (λ n. (offer_task n js w.in-Some.t).0) same)
-            (ap jobs w.self-is ∙ w.in-default-offer-task.ensures.after ∙ ap (λ n. (offer_task n js w.in-Some.t).1) same)
+            (w.in_default-offer_task.ensures.answer ∙ ap (λ n. (offer_task n js w.in-Some.t).0) same)
+            (ap jobs w.self-is ∙ w.in_default-offer_task.ensures.after ∙ ap (λ n. (offer_task n js w.in-Some.t).1) same)
             (c.loop-i.invariant.1 ts e),
       )
-      | in-default w ↦ (
+      | in_default w ↦ (
         ap (λ p. p.fabric) w.self-is ∙ c.loop-i.invariant.0,
-        λ ts e. absurd (no_record task_of 16 c.args.tasks.now.bytes.now ts e c.loop-i.i lt (record { name = 0; core = 0; period = 0; phase = 0; width = 0 }) w.in-default.ensures),
+        λ ts e. absurd (no_record task_of 16 c.args.tasks.now.bytes.now ts e c.loop-i.i lt (record { name = 0; core = 0; period = 0; phase = 0; width = 0 }) w.in_default.ensures),
       )
     ]
 

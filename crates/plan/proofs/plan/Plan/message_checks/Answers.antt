@@ -17,7 +17,7 @@ returns-in-Err g c =
     let from : Some s ≡ task_named (jobs p).tasks m.source = c.in-Some.ensures ∙ ap (λ k. task_named (take k p.tasks) m.source) (sub-zero p.task_count) in
     let to : Some d ≡ task_named (jobs p).tasks m.destination = c.in-Some-pick.ensures ∙ ap (λ k. task_named (take k p.tasks) m.destination) (sub-zero p.task_count) in
     let free : is_some (spot message_name m.name (jobs p).messages) ≡ false =
-    sym (ap (λ k. is_some (spot message_name m.name (take k p.messages))) (sub-zero p.message_count)) ∙ sym (ap is_some c.find.ensures) ∙ sym c.if-is-some.ensures in
+    sym (ap (λ k. is_some (spot message_name m.name (take k p.messages))) (sub-zero p.message_count)) ∙ sym (ap is_some c.find.ensures) ∙ sym c.if-is_some.ensures in
     let fresh : name_taken message_name m.name (jobs p).messages ≡ false = or_from _ _ (ne_eqb m.name 0 c.if-m-eq0.false) free in
     record {
       room = search rules;

@@ -15,7 +15,7 @@ returns-in-Some g c =
     let p = c.args.self.now in
     let t = c.args.t.now in
     let s = setting g.F.Fabric.meaning p in
-    let past = subst (TaskPast s.network.nodes (jobs p)) c.at.ensures c.in-default.ensures in
+    let past = subst (TaskPast s.network.nodes (jobs p)) c.at.ensures c.in_default.ensures in
     let found : Some c.in-Some.phase ≡ first_phase s (jobs p) t =
     phases s (jobs p) t past _ (c.in-Some.ensures ∙ ap (λ k. first_from (λ v. clear (first_met (task_takes (task_at t v)) (map held_task (take k p.tasks)))) (t.period + 1 - t.width) 0) (sub-zero p.task_count)) in
     record { answer = sym (ap (λ r. r.0) (task_goes s (jobs p) t past _ found)); room = λ e. let h = past.room in search rules }
@@ -25,7 +25,7 @@ returns-in-None g c =
     let p = c.args.self.now in
     let t = c.args.t.now in
     let s = setting g.F.Fabric.meaning p in
-    let past = subst (TaskPast s.network.nodes (jobs p)) c.at.ensures c.in-default.ensures in
+    let past = subst (TaskPast s.network.nodes (jobs p)) c.at.ensures c.in_default.ensures in
     let found : None ≡ first_phase s (jobs p) t =
     phases s (jobs p) t past _ (c.in-None.ensures ∙ ap (λ k. first_from (λ v. clear (first_met (task_takes (task_at t v)) (map held_task (take k p.tasks)))) (t.period + 1 - t.width) 0) (sub-zero p.task_count)) in
     record { answer = sym (ap (λ r. r.0) (task_goes s (jobs p) t past _ found)); room = search rules }

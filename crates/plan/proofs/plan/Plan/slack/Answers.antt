@@ -11,17 +11,17 @@ use Rattle.plan.specs.Held.{jobs, setting}
 use Rattle.plan.proofs.plan.Plan.slack.Goals as goal
 
 -- what the message's own slack is, is the held message's
-pub returns-in-Some-slack-of : goal.returns-in-Some-slack-of
-returns-in-Some-slack-of g c =
+pub returns-in-Some-slack_of : goal.returns-in-Some-slack_of
+returns-in-Some-slack_of g c =
     let p = c.args.self.now in
     let s = setting g.F.Fabric.meaning p in
-    let v = c.in-Some-slack-of.slack in
+    let v = c.in-Some-slack_of.slack in
     let f : SFits w64 v = search rules in
     let same = to_z-of_z w64 v f in
     let found : Some c.in-Some.m ≡ named message_name c.args.name (jobs p).messages =
     c.in-Some.ensures ∙ ap (λ k. named message_name c.args.name (take k p.messages)) (sub-zero p.message_count) in
     let told : Some v ≡ slack_among s (jobs p).tasks c.in-Some.m =
-    c.in-Some-slack-of.ensures ∙ ap (λ k. slack_among s (take k p.tasks) c.in-Some.m) (sub-zero p.task_count) in
+    c.in-Some-slack_of.ensures ∙ ap (λ k. slack_among s (take k p.tasks) c.in-Some.m) (sub-zero p.task_count) in
     let is : slack_held s (jobs p) (named message_name c.args.name (jobs p).messages) ≡ Some v = sym (told ∙ ap (slack_held s (jobs p)) found) in
     record {
       answer = ap Ok same ∙ sym (ap (λ o. ok_or o Unknown) is);

@@ -3,8 +3,8 @@ use Rattle.std.proofs.Common.{◌≡◌, ◌%◌, sym, arith}
 use Rattle.fabric.proofs.Places.{below_row, south_at}
 use Rattle.fabric.proofs.mesh.routing.MeshFabric.link.Goals as goal
 
-pub overflow-sub-result-then-y-gt0 : goal.overflow-sub-result-then-y-gt0
-overflow-sub-result-then-y-gt0 c = below_row _ _ c.if-y-gt0.true
+pub overflow_sub-result-then-y-gt0 : goal.overflow_sub-result-then-y-gt0
+overflow_sub-result-then-y-gt0 c = below_row _ _ c.if-y-gt0.true
 
 pub returns-then-y-gt0 : goal.returns-then-y-gt0
 returns-then-y-gt0 c =
