@@ -1,5 +1,6 @@
 // What a fabric is: nodes, links, one hop delay and a route for each pair of nodes, asked by questions that change nothing.
 #![tactic(auto)]
+
 ghost use Rattle.std.specs.Prelude.{◌≡◌, ℕ, ◌≤◌};
 ghost use Rattle.fabric.specs.Network.{Network, Lawful, route_length, route_place};
 

@@ -1,6 +1,7 @@
 // Periodic holds of one place over instants of unbounded time: whether two meet and where first, which run holds an instant,
 // and the least slack of packets that a periodic reader reads.
 #![tactic(auto)]
+
 ghost use Rattle.holds.specs.First.{MeetingIsFirst, MeetingBound};
 ghost use Rattle.holds.specs.Gcd.{GcdIsGreatest};
 ghost use Rattle.holds.specs.Slack.{AlwaysRead, LeastWhole, SlackIsLeast};

@@ -2,7 +2,6 @@
 use Rattle.std.proofs.Common.{◌≡◌, ℕ, cond, List, Some, None, Option, refl, ap}
 use Rattle.records.specs.declared.record.Task.{Task}
 use Rattle.records.specs.declared.record.Message.{Message}
-use Rattle.jobs.specs.declared.fault.MessageFault.{MessageFault}
 use Rattle.jobs.specs.declared.fault.MessageFault.TheVariants as message_fault
 use Rattle.jobs.specs.Jobs.{Setting, Jobs, message_name, task_named}
 use Rattle.jobs.specs.Checks.{ends_checks, message_checks, packet_refusal, routed_checks}

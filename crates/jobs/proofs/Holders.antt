@@ -1,8 +1,7 @@
 -- The holder that the rule tells has the place at the instant, and where it tells none, nothing has.
 use Rattle.std.proofs.Common.{◌≡◌, ℕ, zero, suc, ◌+◌, ◌-◌, ◌/◌, ◌%◌, Bool, true, false, cond, ◌&&◌, ltb, leb, List, [], ◌∷◌, map, Some, None, Option, sym, refl, ap, ◌∙◌, subst, arith}
 use Rattle.std.specs.List.{slice_get}
-use Rattle.std.proofs.lemmas.Bool.{and_from, and_parts, cond-true, false≢true, le-leb, leb-true, lt-ltb, ltb-true}
-use Rattle.holds.specs.Held.{spanned}
+use Rattle.std.proofs.lemmas.Bool.{and_from, and_parts, cond-true, le-leb, leb-true, lt-ltb, ltb-true}
 use Rattle.holds.specs.Run.{run}
 use Rattle.holds.specs.Span.{HoldsAt, Proper, Span}
 use Rattle.holds.proofs.Busy.{busy_in, run_at}
@@ -12,7 +11,7 @@ use Rattle.records.specs.declared.record.Message.{Message}
 use Rattle.jobs.specs.Holding.{Has, HolderIs, Holding, first_run, holder_among, or_else, run_of, run_on, with_name}
 use Rattle.jobs.specs.Jobs.{Setting, task_named}
 use Rattle.jobs.specs.Meetings.{HeldJob, held_message, held_task}
-use Rattle.jobs.specs.Takes.{Place, Take, along, between, message_takes, on_route, same_place}
+use Rattle.jobs.specs.Takes.{Place, Take, along, between, on_route, same_place}
 
 -- ---- the run of one hold
 

@@ -1,14 +1,13 @@
 -- Within the limits of tasks and messages every hold is there, and the least slack is the formula's.
-use Rattle.std.proofs.Common.{◌≡◌, ℕ, zero, suc, ◌+◌, ◌*◌, ◌%◌, ◌<◌, ◌≤◌, Bool, true, false, cond, ◌&&◌, eqb, ◌⊎◌, List, [], ◌∷◌, length, ℤ, pos, ◌-ℤ◌, Some, None, Option, sym, refl, ap, ◌∙◌, subst, inl, inr, ⊎_elim, suc-mul, mul-le-mul, arith}
+use Rattle.std.proofs.Common.{◌≡◌, ℕ, zero, suc, ◌+◌, ◌*◌, ◌%◌, ◌<◌, ◌≤◌, true, eqb, List, [], ◌∷◌, length, pos, ◌-ℤ◌, Some, None, sym, ap, ◌∙◌, ⊎_elim, suc-mul, mul-le-mul, arith}
 use Rattle.std.specs.List.{slice_get}
 use Rattle.std.proofs.lemmas.Bool.Decides.{nat_tests}
-use Rattle.std.proofs.lemmas.Bool.{cond-true, cond-false, cond_both, cases_lt}
+use Rattle.std.proofs.lemmas.Bool.{cond_both, cases_lt}
 use Rattle.std.proofs.lemmas.Option.{slice_get_past}
 use Rattle.fabric.specs.Network.{Lawful}
 use Rattle.holds.specs.Gcd.{Divides, gcd}
-use Rattle.holds.specs.Held.{flowing, latest, longest, spanned}
-use Rattle.holds.specs.Slack.{Flow, least_slack}
-use Rattle.holds.specs.Span.{Span, Proper}
+use Rattle.holds.specs.Held.{spanned}
+use Rattle.holds.specs.Slack.{Flow}
 use Rattle.holds.proofs.Euclid.{gcd_is_greatest}
 use Rattle.holds.proofs.Limits.{flowing_within, spanned_within}
 use Rattle.holds.proofs.Reading.{least_whole}
@@ -17,7 +16,7 @@ use Rattle.records.specs.declared.record.Message.{Message}
 use Rattle.jobs.specs.Jobs.{Setting}
 use Rattle.jobs.specs.Reading.{arrival, due, message_slack, slack_of}
 use Rattle.jobs.specs.Rules.{message_timely, task_timely}
-use Rattle.jobs.specs.Takes.{Take, along, leaves, link_take, on_route, packet_takes, task_hold, task_span}
+use Rattle.jobs.specs.Takes.{along, leaves, link_take, on_route, packet_takes, task_hold, task_span}
 
 record Timed (t : Task) : Type 0 where
   some : 1 ≤ t.width

@@ -1,5 +1,5 @@
 -- The slack that the rule gives a held message is the least over all of its packets.
-use Rattle.std.proofs.Common.{◌≡◌, ℕ, ◌<◌, Bool, true, false, cond, ◌&&◌, ltb, leb, List, length, ℤ, Some, None, Option, sym, refl, ap, ◌∙◌, subst, arith}
+use Rattle.std.proofs.Common.{◌≡◌, ℕ, ◌<◌, Bool, true, false, cond, ◌&&◌, ltb, leb, List, ℤ, Some, None, Option, sym, refl, subst, arith}
 use Rattle.std.proofs.lemmas.Bool.{and_parts, ltb-true}
 use Rattle.holds.specs.Span.{Span}
 use Rattle.holds.specs.Slack.{Flow, LeastSlack, least_slack}
@@ -10,8 +10,8 @@ use Rattle.records.specs.Named.{named}
 use Rattle.records.specs.declared.record.Task.{Task}
 use Rattle.records.specs.declared.record.Message.{Message}
 use Rattle.jobs.specs.Jobs.{Setting, Jobs, message_name, task_named}
-use Rattle.jobs.specs.Reading.{message_slack, slack_of}
-use Rattle.jobs.specs.Slacks.{HeldSlack, message_flow, routed_slack, slack_between, slack_held}
+use Rattle.jobs.specs.Reading.{slack_of}
+use Rattle.jobs.specs.Slacks.{HeldSlack, routed_slack, slack_between, slack_held}
 use Rattle.jobs.specs.Takes.{task_hold, task_span}
 
 -- what passes a test is what was tested

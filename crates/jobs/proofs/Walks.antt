@@ -1,10 +1,10 @@
 -- What packets have yet to take on their way, from a place of the route on.
-use Rattle.std.proofs.Common.{◌≡◌, ℕ, ◌+◌, ◌*◌, ◌≤◌, List, [], ◌∷◌, map, length, drop, Some, None, Option, sym, refl, ap, ◌∙◌, add-mul, arith}
+use Rattle.std.proofs.Common.{◌≡◌, ℕ, ◌+◌, ◌*◌, ◌≤◌, List, [], ◌∷◌, map, Some, None, Option, sym, refl, ap, ◌∙◌, add-mul, arith}
 use Rattle.std.specs.Option.{option_map}
 use Rattle.std.proofs.lemmas.List.{at_drop_all}
 use Rattle.holds.specs.Held.{span, spanned}
-use Rattle.fabric.specs.Network.{Lawful, route_place, route_length}
-use Rattle.fabric.proofs.Laws.{rest, rest_more, rest_none, rest_past, no_place}
+use Rattle.fabric.specs.Network.{Lawful, route_place}
+use Rattle.fabric.proofs.Laws.{rest, rest_more, rest_past, no_place}
 use Rattle.records.specs.declared.record.Task.{Task}
 use Rattle.records.specs.declared.record.Message.{Message}
 use Rattle.jobs.specs.declared.fault.Meeting.{Meeting}

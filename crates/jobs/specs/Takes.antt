@@ -1,5 +1,5 @@
 -- The places that jobs take, and when. A core's place is taken by tasks, a link's by packets. Assumes nothing.
-use Rattle.std.specs.Prelude.{ℕ, ◌+◌, Bool, true, false, List, [], ◌∷◌, Some, None, Option, ◌==◌}
+use Rattle.std.specs.Prelude.{ℕ, ◌+◌, Bool, false, List, [], ◌∷◌, Some, None, Option, ◌==◌}
 use Rattle.holds.specs.Span.{Span}
 use Rattle.holds.specs.Held.{spanned}
 use Rattle.records.specs.declared.record.Task.{Task}

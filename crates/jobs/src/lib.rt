@@ -1,5 +1,6 @@
 // What a plan holds, and why an offer is refused: tasks on cores, messages between them, the places that they take and when.
 #![tactic(auto)]
+
 ghost use Rattle.jobs.specs.Stand.{PacketHolds, SlackFormula, TaskHolds};
 ghost use Rattle.std.specs.Prelude.{◌≡◌};
 

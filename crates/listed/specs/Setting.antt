@@ -6,7 +6,7 @@
 --   section_read               a section of at most so many records
 --   link_fault, route_fault    what is wrong with a record
 --   setting_read               all of it, in order, by head-set, links-set and routes-set
-use Rattle.std.specs.Prelude.{ℕ, zero, suc, ◌+◌, Bool, false, cond, not, ◌&&◌, List, [], length, Some, None, Ok, Err, Option, Result, ◌==◌, nat_le, nat_lt}
+use Rattle.std.specs.Prelude.{ℕ, zero, suc, ◌+◌, Bool, false, cond, ◌&&◌, List, [], Some, None, Ok, Err, Option, Result, ◌==◌, nat_le, nat_lt}
 use Rattle.records.specs.declared.head.Head.{Head as FileHead}
 use Rattle.records.specs.declared.head.HeadFault.{HeadFault}
 use Rattle.records.specs.declared.head.HeadFault.TheVariants.{Version, Limits}

@@ -1,5 +1,6 @@
 // A fabric whose links and routes are read from file bytes that the caller holds.
 #![tactic(auto)]
+
 ghost use Rattle.std.specs.Prelude.{◌≡◌, ℕ, ◌/◌, ◌<◌, ◌≤◌, true, length};
 ghost use Rattle.listed.specs.Records.{link_at, link_good, route_at, route_prior, route_good};
 

@@ -1,5 +1,6 @@
 // The bytes of plan files: records of fixed size, sections of them, names, and the head.
 #![tactic(auto)]
+
 mod bytes;
 pub mod forms;
 pub mod head;

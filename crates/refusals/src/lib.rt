@@ -1,5 +1,6 @@
 // Refusals by number and values, their words, and the line that tells a verdict.
 #![tactic(auto)]
+
 pub mod line;
 mod put;
 pub mod refusal;

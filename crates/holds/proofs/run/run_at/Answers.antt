@@ -1,5 +1,4 @@
-use Rattle.std.proofs.Common.{◌≡◌, sym, arith, rules}
-use Rattle.std.proofs.lemmas.Bool.{cond-true, cond-false, and_from, le-leb, lt-ltb}
+use Rattle.std.proofs.Common.{arith, rules}
 use Rattle.holds.specs.Held.{span}
 use Rattle.holds.proofs.Busy.{run_at, busy_in, busy_begun}
 use Rattle.holds.proofs.Limits.{proper}

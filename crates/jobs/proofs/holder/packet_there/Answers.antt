@@ -1,8 +1,7 @@
-use Rattle.std.proofs.Common.{◌≡◌, ◌+◌, Some, None, sym, ap, ◌∙◌, arith}
-use Rattle.jobs.specs.Holding.{first_run, or_else, run_on}
+use Rattle.std.proofs.Common.{◌+◌, sym, ap, ◌∙◌, arith}
+use Rattle.jobs.specs.Holding.{first_run, or_else}
 use Rattle.jobs.specs.Jobs.{over}
 use Rattle.jobs.specs.Takes.{link}
-use Rattle.jobs.specs.Ways.{stay_take}
 use Rattle.jobs.proofs.Walks.{takes_from, way_first, takes_more, takes_none, takes_past}
 use Rattle.jobs.proofs.holder.packet_there.Goals as goal
 use Rattle.jobs.proofs.holder.packet_there.Goals.{in-Some+in_default-run_there, in_default}

@@ -1,4 +1,4 @@
-use Rattle.std.proofs.Common.{◌≡◌, sym, refl, ap, ◌∙◌, arith}
+use Rattle.std.proofs.Common.{sym, ap, ◌∙◌, arith}
 use Rattle.jobs.specs.Jobs.{over}
 use Rattle.jobs.specs.Meetings.{earliest_from, meetings}
 use Rattle.jobs.specs.Ways.{way_takes}

@@ -1,4 +1,4 @@
-use Rattle.std.proofs.Common.{◌≡◌, map, sym, refl, ap, ◌∙◌, arith}
+use Rattle.std.proofs.Common.{map, sym, ap, ◌∙◌, arith}
 use Rattle.jobs.specs.Jobs.{over}
 use Rattle.jobs.specs.Meetings.{earliest_from, met, sooner}
 use Rattle.jobs.specs.Takes.{link}

@@ -1,4 +1,4 @@
-use Rattle.std.proofs.Common.{◌-◌, leb, ◌++◌, length, take, drop, is_some, sym, ap, ◌∙◌, arith}
+use Rattle.std.proofs.Common.{leb, ◌++◌, length, take, drop, is_some, sym, ap, ◌∙◌, arith}
 use Rattle.std.proofs.lemmas.Bool.{le-leb, and_from}
 use Rattle.records.specs.Named.{spot, without}
 use Rattle.records.proofs.Places.{spot_held, lone_at}
