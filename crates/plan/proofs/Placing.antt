@@ -1,5 +1,5 @@
 -- Past the checks that leave phase and delay out, a value is taken exactly where it is neither late nor meets anything.
-use Rattle.std.proofs.Common.{◌≡◌, ℕ, ◌+◌, ◌-◌, ◌<◌, Bool, true, false, not, leb, List, map, length, Some, None, Ok, Err, Option, sym, refl, ap, ◌∙◌, arith}
+use Rattle.std.proofs.Common.{◌≡◌, ℕ, ◌+◌, ◌-◌, ◌<◌, not, leb, map, length, Some, None, Err, Option, sym, refl, ap, ◌∙◌, arith}
 use Rattle.std.specs.Option.{option_map}
 use Rattle.std.proofs.lemmas.Bool.{cond-false, lt-leb}
 use Rattle.std.proofs.lemmas.Bool.Decides.{nat_tests}
@@ -12,13 +12,13 @@ use Rattle.jobs.specs.declared.fault.MessagePlacingFault.{MessagePlacingFault}
 use Rattle.jobs.specs.declared.fault.TaskPlacingFault.{TaskPlacingFault}
 use Rattle.jobs.specs.declared.open.OpenTask.{OpenTask}
 use Rattle.jobs.specs.declared.open.OpenMessage.{OpenMessage}
-use Rattle.jobs.specs.Jobs.{Setting, Jobs, task_name, with_message, with_task}
+use Rattle.jobs.specs.Jobs.{Setting, Jobs, task_name}
 use Rattle.jobs.specs.Meetings.{first_met, held_task}
 use Rattle.jobs.specs.Open.{message_at, task_at}
 use Rattle.jobs.specs.Past.{MessagePast, TaskPast}
 use Rattle.jobs.specs.Placings.{clear, delays, first_delay, first_phase, message_placed, on_way, place_message, place_task, task_placed}
-use Rattle.jobs.specs.Checks.{message_checks, packet_refusal, task_checks}
-use Rattle.jobs.specs.Rules.{message_refusal, message_timely, name_taken, task_refusal, task_timely}
+use Rattle.jobs.specs.Checks.{packet_refusal, task_checks}
+use Rattle.jobs.specs.Rules.{message_refusal, name_taken, task_timely}
 use Rattle.jobs.specs.Takes.{task_takes}
 use Rattle.jobs.proofs.Checked.{message_checked}
 use Rattle.jobs.proofs.Searches.{first_same}

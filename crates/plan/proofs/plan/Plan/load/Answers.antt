@@ -1,4 +1,4 @@
-use Rattle.std.proofs.Common.{◌≡◌, ℕ, length, Ok, Err, sym, refl, ap, ◌∙◌}
+use Rattle.std.proofs.Common.{◌≡◌, ℕ, length, Ok, sym, ap, ◌∙◌}
 use Rattle.records.specs.Forms.{task_of, message_of}
 use Rattle.records.proofs.Sections.{section_length}
 use Rattle.jobs.specs.Jobs.{over}

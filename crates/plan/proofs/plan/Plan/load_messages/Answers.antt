@@ -1,4 +1,4 @@
-use Rattle.std.proofs.Common.{◌≡◌, ◌/◌, ◌<◌, List, length, Ok, Err, sym, refl, ap, ◌∙◌, arith}
+use Rattle.std.proofs.Common.{◌≡◌, ◌/◌, ◌<◌, List, length, Ok, Err, refl, ap, ◌∙◌, arith}
 use Rattle.records.specs.Forms.{message_of}
 use Rattle.records.specs.Sections.{section_records}
 use Rattle.records.specs.declared.record.Message.{Message}
@@ -9,7 +9,7 @@ use Rattle.plan.specs.Held.{jobs, setting}
 use Rattle.plan.specs.Loading.{load_messages}
 use Rattle.plan.proofs.Turns.{turn_on, turn_stop, turn_end, on_record, no_record}
 use Rattle.plan.proofs.plan.Plan.load_messages.Goals as goal
-use Rattle.plan.proofs.plan.Plan.load_messages.Goals.{in-Some+in-default-offer-message, in_default}
+use Rattle.plan.proofs.plan.Plan.load_messages.Goals.{in-Some+in_default-offer_message, in_default}
 
 pub loop-i-init : goal.loop-i-init
 loop-i-init g c = (refl, λ ms e. refl)
@@ -21,7 +21,7 @@ loop-i-preserved g c =
     let same : setting g.F.Fabric.meaning c.loop-i.self ≡ s = ap (λ f. over g.F.Fabric.meaning f.now) c.loop-i.invariant.0 in
     let lt : c.loop-i.i < length c.args.messages.now.bytes.now / 16 = omega (arith, c.count-i-end.ensures) in
     elim c.match-get.branch [
-      | in-Some+in-default-offer-message w ↦ (
+      | in-Some+in_default-offer_message w ↦ (
         ap (λ p. p.fabric) w.self-is ∙ w.offer_message.ensures.fabric ∙ c.loop-i.invariant.0,
         λ ms e.
             let at = on_record message_of 16 c.args.messages.now.bytes.now ms e c.loop-i.i lt w.in-Some.m w.in-Some.ensures in

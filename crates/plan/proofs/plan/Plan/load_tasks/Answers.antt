@@ -1,4 +1,4 @@
-use Rattle.std.proofs.Common.{◌≡◌, ◌/◌, ◌<◌, List, length, Ok, Err, sym, refl, ap, ◌∙◌, arith}
+use Rattle.std.proofs.Common.{◌≡◌, ◌/◌, ◌<◌, List, length, Ok, Err, refl, ap, ◌∙◌, arith}
 use Rattle.records.specs.Forms.{task_of}
 use Rattle.records.specs.Sections.{section_records}
 use Rattle.records.specs.declared.record.Task.{Task}
@@ -9,7 +9,7 @@ use Rattle.plan.specs.Held.{jobs, setting}
 use Rattle.plan.specs.Loading.{load_tasks}
 use Rattle.plan.proofs.Turns.{turn_on, turn_stop, turn_end, on_record, no_record}
 use Rattle.plan.proofs.plan.Plan.load_tasks.Goals as goal
-use Rattle.plan.proofs.plan.Plan.load_tasks.Goals.{in-Some+in-default-offer-task, in_default}
+use Rattle.plan.proofs.plan.Plan.load_tasks.Goals.{in-Some+in_default-offer_task, in_default}
 
 pub loop-i-init : goal.loop-i-init
 loop-i-init g c = (refl, λ ts e. refl)
@@ -21,7 +21,7 @@ loop-i-preserved g c =
     let same : setting g.F.Fabric.meaning c.loop-i.self ≡ s = ap (λ f. over g.F.Fabric.meaning f.now) c.loop-i.invariant.0 in
     let lt : c.loop-i.i < length c.args.tasks.now.bytes.now / 16 = omega (arith, c.count-i-end.ensures) in
     elim c.match-get.branch [
-      | in-Some+in-default-offer-task w ↦ (
+      | in-Some+in_default-offer_task w ↦ (
         ap (λ p. p.fabric) w.self-is ∙ w.offer_task.ensures.fabric ∙ c.loop-i.invariant.0,
         λ ts e.
             let at = on_record task_of 16 c.args.tasks.now.bytes.now ts e c.loop-i.i lt w.in-Some.t w.in-Some.ensures in

@@ -1,9 +1,9 @@
-use Rattle.std.proofs.Common.{◌≡◌, true, false, take, is_some, Some, sym, ap, ◌∙◌, rules}
+use Rattle.std.proofs.Common.{◌≡◌, false, take, is_some, Some, sym, ap, ◌∙◌, rules}
 use native.Mathlib.Nat.{sub-zero}
 use Rattle.std.proofs.lemmas.Bool.{or_from, ne_eqb}
 use Rattle.records.specs.Named.{spot}
 use Rattle.jobs.specs.Jobs.{message_name, task_named}
-use Rattle.jobs.specs.Rules.{message_timely, name_taken}
+use Rattle.jobs.specs.Rules.{name_taken}
 use Rattle.plan.specs.Held.{jobs, setting}
 use Rattle.plan.proofs.Checks.{between}
 use Rattle.plan.proofs.plan.Plan.message_checks.Goals as goal

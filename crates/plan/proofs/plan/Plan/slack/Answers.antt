@@ -1,10 +1,10 @@
-use Rattle.std.proofs.Common.{◌≡◌, take, ℤ, Some, Ok, sym, ap, ◌∙◌, subst, w64, SFits, to_z, of_z, rules}
+use Rattle.std.proofs.Common.{◌≡◌, take, ℤ, Some, Ok, sym, ap, ◌∙◌, subst, w64, SFits, rules}
 use native.Mathlib.Nat.{sub-zero}
 use Rattle.std.proofs.lemmas.Int.{to_z-of_z}
 use Rattle.std.specs.Option.{ok_or}
 use Rattle.records.specs.Named.{named}
 use Rattle.jobs.specs.Jobs.{message_name}
-use Rattle.jobs.specs.Slacks.{HeldSlack, slack, slack_among, slack_held}
+use Rattle.jobs.specs.Slacks.{HeldSlack, slack_among, slack_held}
 use Rattle.jobs.specs.declared.fault.DropFault.TheVariants.{Unknown}
 use Rattle.jobs.proofs.Slacks.{held_slack}
 use Rattle.plan.specs.Held.{jobs, setting}
