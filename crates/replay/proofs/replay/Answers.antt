@@ -22,7 +22,7 @@ loop-call-preserved g c =
     let moved = c.step.ensures.after ∙ ap (λ n. (ask n js (asked (get_or calls i d))).1) same in
     let is = c.step.ensures.answer ∙ ap (λ n. (ask n js (asked (get_or calls i d))).0) same in (
       ap (λ f. over meaning f.now) c.step.ensures.fabric ∙ same,
-      answers_on s calls i js d (jobs c.step.new.plan) c.loop-call-test.true moved (vec_items c.loop-call.answers) (vec_items c.push.new.self) c.step.result _ is (pushed (c.step.result ∷ []) refl c.in-ok-push.was c.push.ensures.items) c.loop-call.invariant.1,
+      answers_on s calls i js d (jobs c.step.new.plan) c.loop-call-test.true moved (vec_items c.loop-call.answers) (vec_items c.push.new.self) c.step.result _ is (pushed (c.step.result ∷ []) refl c.in_ok-push.was c.push.ensures.items) c.loop-call.invariant.1,
       held_on s calls i js d (jobs c.step.new.plan) c.loop-call-test.true moved _ c.loop-call.invariant.2,
     )
 
@@ -41,8 +41,8 @@ returns g c =
       promise = kept;
     }
 
-pub returns-in-err-push : goal.returns-in-err-push
-returns-in-err-push g c =
+pub returns-in_err-push : goal.returns-in_err-push
+returns-in_err-push g c =
     record {
       answers = search rules;
       held = search rules;

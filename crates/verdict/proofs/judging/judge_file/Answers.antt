@@ -9,7 +9,7 @@ pub returns-else-head-eq1 : goal.returns-else-head-eq1
 returns-else-head-eq1 c =
     let file = c.args.file.now in
     let read : head_read file ≡ Ok (c.in-Ok.head, c.in-Ok.rest.now) = c.in-Ok.ensures in
-    c.judge-listed.ensures
+    c.judge_listed.ensures
     ∙ sym (cond-false (eqb c.in-Ok.head.kind 1) (mesh_verdict c.in-Ok.head c.in-Ok.rest.now) (listed_verdict file) (ne_eqb c.in-Ok.head.kind 1 c.if-head-eq1.false))
     ∙ sym (ap (by_kind file) read)
-    ∙ sym (cond-false (ltb 8192 (length file)) _ (by_kind file (head_read file)) (le-ltb 8192 (length file) c.if-file-gt-LONGEST-FILE.false))
+    ∙ sym (cond-false (ltb 8192 (length file)) _ (by_kind file (head_read file)) (le-ltb 8192 (length file) c.if-file-gt-LONGEST_FILE.false))
