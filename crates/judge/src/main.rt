@@ -1,5 +1,6 @@
 // Prints the verdict line on the plan file that standard input holds.
 #![tactic(auto)]
+
 use anyhow::anyhow;
 use std::io::{Read, Write};
 use verdict::judge;

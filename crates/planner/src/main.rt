@@ -1,5 +1,6 @@
 // Runs the script that standard input holds, and prints each line with what it is answered.
 #![tactic(auto)]
+
 ghost use Rattle.std.specs.Prelude.{◌≡◌, length, IfOk, vec_len};
 
 use anyhow::Context;

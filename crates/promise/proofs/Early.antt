@@ -1,6 +1,5 @@
 -- The earlier checks refuse exactly where one of their conditions holds.
-use Rattle.std.proofs.Common.{◌≡◌, ℕ, ◌≤◌, Bool, true, false, cond, not, leb, ◌↔◌, List, length, Some, None, Ok, Err, Option, Result, sym, refl, ap, ◌∙◌, subst, arith}
-use Rattle.std.specs.Option.{option_map}
+use Rattle.std.proofs.Common.{◌≡◌, ℕ, ◌≤◌, Bool, true, false, cond, not, leb, ◌↔◌, List, length, Some, None, Err, Option, sym, refl, ap, ◌∙◌, subst, arith}
 use Rattle.fabric.specs.Network.{Lawful}
 use Rattle.records.specs.declared.record.Task.{Task}
 use Rattle.records.specs.declared.record.Message.{Message}
@@ -8,9 +7,7 @@ use Rattle.jobs.specs.declared.fault.TaskFault.{TaskFault}
 use Rattle.jobs.specs.declared.fault.TaskFault.TheVariants as task_fault
 use Rattle.jobs.specs.declared.fault.MessageFault.{MessageFault}
 use Rattle.jobs.specs.declared.fault.MessageFault.TheVariants as message_fault
-use Rattle.jobs.specs.declared.fault.TaskPlacingFault.{TaskPlacingFault}
 use Rattle.jobs.specs.declared.fault.TaskPlacingFault.TheVariants as task_placing
-use Rattle.jobs.specs.declared.fault.MessagePlacingFault.{MessagePlacingFault}
 use Rattle.jobs.specs.declared.fault.MessagePlacingFault.TheVariants as message_placing
 use Rattle.jobs.specs.declared.open.OpenTask.{OpenTask}
 use Rattle.jobs.specs.declared.open.OpenMessage.{OpenMessage}
@@ -23,7 +20,7 @@ use Rattle.jobs.specs.Jobs.{Jobs, Setting, message_name, task_name, task_named, 
 use Rattle.jobs.specs.Checks.{ends_checks, message_checks, packet_refusal, routed_checks, task_checks}
 use Rattle.jobs.specs.Rules.{message_refusal, message_timely, name_taken, offer_message, offer_task, offered, task_refusal, task_timely}
 use Rattle.promise.specs.Clean.{Clean}
-use Rattle.promise.specs.Offers.{EarlyMessage, EarlyTask, MessageAnswer, MessageOffer, MessagePassed, MessageWhy, TaskAnswer, TaskOffer, TaskPassed, TaskWhy}
+use Rattle.promise.specs.Offers.{EarlyMessage, EarlyTask, MessageAnswer, MessagePassed, MessageWhy, TaskAnswer, TaskPassed, TaskWhy}
 use Rattle.promise.proofs.Messages.{message_offer, past as message-past}
 use Rattle.promise.proofs.Passing.{message_passes, task_passes}
 use Rattle.promise.proofs.Tasks.{past, task_offer}

@@ -1,5 +1,5 @@
 -- Offers, placings and loads keep a clean plan clean.
-use Rattle.std.proofs.Common.{◌≡◌, ℕ, ◌+◌, ◌-◌, ◌<◌, ◌≤◌, Bool, true, false, List, [], ◌∷◌, map, Some, None, Ok, Err, Option, Result, sym, refl, ap, ◌∙◌, subst, arith}
+use Rattle.std.proofs.Common.{◌≡◌, ℕ, ◌+◌, ◌-◌, ◌≤◌, Bool, true, List, [], ◌∷◌, map, Some, None, Ok, Err, Option, Result, sym, refl, ap, ◌∙◌, subst, arith}
 use Rattle.std.specs.Option.{option_map}
 use Rattle.fabric.specs.Network.{Lawful}
 use Rattle.holds.specs.Search.{first_from}
@@ -19,7 +19,7 @@ use Rattle.jobs.specs.Checks.{message_checks, packet_refusal, task_checks}
 use Rattle.jobs.specs.Rules.{message_refusal, offer_message, offer_task, offered, task_refusal}
 use Rattle.jobs.specs.Takes.{task_takes}
 use Rattle.jobs.proofs.Checked.{message_checked}
-use Rattle.plan.specs.Loading.{in_turn, job_part, load, load_messages, load_tasks, loaded, on_taken, past_tasks}
+use Rattle.plan.specs.Loading.{in_turn, job_part, load, load_tasks, loaded, on_taken, past_tasks}
 use Rattle.plan.specs.declared.fault.LayoutFault.{LayoutFault}
 use Rattle.promise.specs.Clean.{Clean}
 use Rattle.promise.proofs.Messages.{message_offer}

@@ -1,11 +1,11 @@
 -- A message is on time exactly where its least slack is not below 0.
-use Rattle.std.proofs.Common.{◌≡◌, ℕ, ◌+◌, ◌*◌, ◌%◌, ◌<◌, ◌≤◌, Bool, true, false, cond, List, length, ℤ, pos, ◌-ℤ◌, ◌≤ℤ◌, Some, None, Option, sym, refl, ap, ◌∙◌, subst, le_antisymm, arith}
+use Rattle.std.proofs.Common.{◌≡◌, ℕ, ◌+◌, ◌*◌, ◌%◌, ◌<◌, ◌≤◌, Bool, true, false, cond, List, length, ℤ, pos, ◌-ℤ◌, ◌≤ℤ◌, Some, None, Option, sym, refl, ap, ◌∙◌, subst, arith}
 use lib.Signed.{lt_z}
 use Rattle.std.proofs.lemmas.Int.{ints}
 use Rattle.std.proofs.lemmas.Bool.Decides.{nat_tests}
 use Rattle.fabric.specs.Network.{Lawful}
 use Rattle.holds.specs.Gcd.{gcd}
-use Rattle.holds.specs.Slack.{Flow, LeastSlack, ReadAt, SlackIs}
+use Rattle.holds.specs.Slack.{Flow, LeastSlack, ReadAt}
 use Rattle.holds.specs.Span.{Span}
 use Rattle.holds.proofs.Reading.{always_read}
 use Rattle.records.specs.declared.record.Task.{Task}

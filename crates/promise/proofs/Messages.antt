@@ -1,5 +1,5 @@
 -- Offers of messages to a clean plan: taken exactly where the plan stays clean.
-use Rattle.std.proofs.Common.{◌≡◌, ℕ, ◌<◌, ◌≤◌, Bool, true, false, ◌⊎◌, List, map, length, ℤ, is_some, Some, None, Ok, Err, Option, Result, sym, refl, ap, ◌∙◌, subst, inl, inr, ⊎_elim, arith}
+use Rattle.std.proofs.Common.{◌≡◌, ℕ, ◌≤◌, true, false, ◌⊎◌, List, map, length, ℤ, is_some, Some, None, Ok, Err, Option, Result, sym, refl, ap, ◌∙◌, subst, inl, inr, ⊎_elim, arith}
 use Rattle.std.specs.Option.{option_map}
 use Rattle.std.proofs.lemmas.Bool.{ne_eqb, or_from}
 use Rattle.fabric.specs.Network.{Lawful}
@@ -15,15 +15,15 @@ use Rattle.jobs.specs.Past.{MessagePast}
 use Rattle.jobs.specs.Reading.{lateness, message_slack}
 use Rattle.jobs.specs.Checks.{packet_refusal}
 use Rattle.jobs.specs.Rules.{late, message_refusal, message_timely, offer_message, offered, task_timely}
-use Rattle.jobs.specs.Takes.{Take, message_takes, number, packet_takes}
+use Rattle.jobs.specs.Takes.{message_takes, packet_takes}
 use Rattle.jobs.proofs.Checked.{message_checked}
 use Rattle.plan.proofs.Checks.{passed}
-use Rattle.promise.specs.Clean.{Clean, In, MessageMade, OnTime, PacketTakes, TaskMade, Ways}
+use Rattle.promise.specs.Clean.{Clean, In, MessageMade, OnTime, PacketTakes}
 use Rattle.promise.specs.Offers.{FirstMeeting, MessageOffer, MessagePassed, MessageWhy, PacketsMeet}
 use Rattle.promise.proofs.Firsts.{FirstMet, first_met_none, first_met_some}
 use Rattle.promise.proofs.Lateness.{below, late_breaks, late_least, on_time}
 use Rattle.promise.proofs.Lists.{add_new, add_old, apart_none, distinct_add_apart, in_add, in_map, map_in, spot_named}
-use Rattle.promise.proofs.Meets.{MeetAt, message_takes_sound, messages_sound}
+use Rattle.promise.proofs.Meets.{message_takes_sound, messages_sound}
 use Rattle.promise.proofs.Packets.{Flows, flows, found_made, packets_meet, same_packet, takes_are, takes_meet}
 use Rattle.promise.proofs.Takes.{timely_made, timely_sent}
 

@@ -1,5 +1,5 @@
 -- Packets on links, by the rules' takes and by instants.
-use Rattle.std.proofs.Common.{◌≡◌, ℕ, ◌≤◌, true, List, Some, None, Option, sym, refl, ap, ◌∙◌, subst, arith}
+use Rattle.std.proofs.Common.{◌≡◌, ℕ, ◌≤◌, true, List, Some, Option, sym, refl, ap, ◌∙◌, subst}
 use Rattle.std.specs.List.{slice_get}
 use Rattle.fabric.specs.Network.{Lawful}
 use Rattle.holds.specs.Span.{Busy, HoldsAt, Span}
@@ -7,7 +7,7 @@ use Rattle.records.specs.declared.record.Task.{Task}
 use Rattle.records.specs.declared.record.Message.{Message}
 use Rattle.jobs.specs.Jobs.{Jobs, Setting, task_name, task_named}
 use Rattle.jobs.specs.Rules.{message_timely, task_timely}
-use Rattle.jobs.specs.Takes.{Place, Take, between, link, message_takes, number, packet_takes}
+use Rattle.jobs.specs.Takes.{Take, between, link, message_takes, number, packet_takes}
 use Rattle.promise.specs.Clean.{Clean, In, MessageMade, PacketTakes, TaskMade, Ways, link_span}
 use Rattle.promise.specs.Offers.{PacketsMeet}
 use Rattle.promise.proofs.Lists.{named_in}

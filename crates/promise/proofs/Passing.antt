@@ -1,5 +1,5 @@
 -- What no check refuses is past the checks: none of their conditions holds.
-use Rattle.std.proofs.Common.{◌≡◌, ℕ, ◌+◌, ◌<◌, ◌≤◌, Bool, true, false, cond, not, eqb, leb, List, length, Some, None, Option, sym, refl, ap, ◌∙◌, subst, arith}
+use Rattle.std.proofs.Common.{◌≡◌, ℕ, ◌<◌, Bool, true, false, cond, not, eqb, leb, List, length, Some, None, Option, refl, arith}
 use Rattle.std.proofs.lemmas.Bool.{leb-false, not-false, or_parts}
 use Rattle.std.proofs.lemmas.Bool.Decides.{nat_tests}
 use Rattle.records.specs.declared.record.Task.{Task}
@@ -11,7 +11,7 @@ use Rattle.jobs.specs.declared.fault.MessageFault.TheVariants as message_fault
 use Rattle.jobs.specs.Jobs.{Jobs, Setting, message_name, task_name, task_named}
 use Rattle.jobs.specs.Checks.{ends_checks, message_checks, routed_checks, task_checks}
 use Rattle.jobs.specs.Rules.{message_timely, name_taken, task_timely}
-use Rattle.promise.specs.Clean.{In, Ways}
+use Rattle.promise.specs.Clean.{In}
 use Rattle.promise.specs.Offers.{MessagePassed, TaskPassed}
 use Rattle.promise.proofs.Lists.{fresh_apart}
 

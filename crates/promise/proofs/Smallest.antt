@@ -5,15 +5,11 @@ use Rattle.fabric.specs.Network.{Lawful}
 use Rattle.holds.specs.Search.{first_from}
 use Rattle.holds.proofs.Search.{Found, first_found}
 use Rattle.records.specs.declared.record.Task.{Task}
-use Rattle.jobs.specs.declared.fault.TaskFault.{TaskFault}
-use Rattle.jobs.specs.declared.fault.MessageFault.{MessageFault}
-use Rattle.jobs.specs.declared.fault.TaskPlacingFault.{TaskPlacingFault}
 use Rattle.jobs.specs.declared.fault.TaskPlacingFault.TheVariants as task_placing
-use Rattle.jobs.specs.declared.fault.MessagePlacingFault.{MessagePlacingFault}
 use Rattle.jobs.specs.declared.fault.MessagePlacingFault.TheVariants as message_placing
 use Rattle.jobs.specs.declared.open.OpenTask.{OpenTask}
 use Rattle.jobs.specs.declared.open.OpenMessage.{OpenMessage}
-use Rattle.jobs.specs.Jobs.{Jobs, Setting, task_named, with_message, with_task}
+use Rattle.jobs.specs.Jobs.{Jobs, Setting, with_message, with_task}
 use Rattle.jobs.specs.Open.{message_at, task_at}
 use Rattle.jobs.specs.Placings.{clear, delays, first_delay, first_phase, message_placed, place_message, place_task, task_placed}
 use Rattle.jobs.specs.Rules.{message_refusal, offered, task_refusal}

@@ -1,11 +1,10 @@
 -- The places that held jobs take, by the rules and by runs and packets.
-use Rattle.std.proofs.Common.{◌≡◌, ℕ, zero, suc, ◌+◌, ◌*◌, ◌<◌, ◌≤◌, Bool, true, false, cond, ◌⊎◌, List, [], ◌∷◌, length, get_or, Some, None, Option, sym, refl, ap, ◌∙◌, subst, inl, inr, suc-mul, arith}
+use Rattle.std.proofs.Common.{◌≡◌, ℕ, zero, suc, ◌+◌, ◌<◌, ◌≤◌, true, ◌⊎◌, List, [], ◌∷◌, length, get_or, Some, sym, refl, ap, ◌∙◌, subst, inl, inr, arith}
 use Rattle.std.specs.List.{slice_get}
 use Rattle.std.proofs.lemmas.Bool.{cases_order}
 use Rattle.std.proofs.lemmas.Bool.Decides.{nat_tests}
-use Rattle.std.proofs.lemmas.Option.{slice_get-get_or, slice_get_past}
 use Rattle.fabric.specs.Network.{Lawful, Once}
-use Rattle.holds.specs.Span.{HoldsAt, Proper, Span}
+use Rattle.holds.specs.Span.{HoldsAt, Proper}
 use Rattle.holds.proofs.Busy.{run_only}
 use Rattle.records.specs.declared.record.Task.{Task}
 use Rattle.records.specs.declared.record.Message.{Message}
@@ -13,7 +12,7 @@ use Rattle.jobs.specs.Jobs.{Setting}
 use Rattle.jobs.specs.Rules.{message_timely, task_timely}
 use Rattle.jobs.specs.Takes.{Take, along, leaves, link_take, on_route, packet_takes, task_span}
 use Rattle.jobs.proofs.Limits.{packet_holds}
-use Rattle.promise.specs.Clean.{In, PacketTakes, TaskMade, Ways, link_span}
+use Rattle.promise.specs.Clean.{In, TaskMade, link_span}
 
 -- the tests of the rules, and the limits in words
 pub timely_made : (g : Setting) (t : Task) → TaskMade g t → task_timely t ≡ true

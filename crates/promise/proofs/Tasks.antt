@@ -1,23 +1,23 @@
 -- Offers of tasks to a clean plan: taken exactly where the plan stays clean.
-use Rattle.std.proofs.Common.{◌≡◌, ℕ, ◌+◌, ◌<◌, ◌≤◌, Bool, true, false, eqb, ◌⊎◌, List, [], ◌∷◌, map, is_some, Some, None, Ok, Err, Option, Result, sym, refl, ap, ◌∙◌, subst, inl, inr, ⊎_elim, arith}
+use Rattle.std.proofs.Common.{◌≡◌, ℕ, false, ◌⊎◌, List, [], ◌∷◌, map, is_some, Some, None, Ok, Err, Option, Result, sym, refl, ap, ◌∙◌, subst, inl, inr, ⊎_elim, arith}
 use Rattle.std.specs.Option.{option_map}
 use Rattle.std.proofs.lemmas.Bool.{ne_eqb, or_from}
 use Rattle.holds.specs.Span.{HoldsAt, Span}
 use Rattle.holds.proofs.Busy.{run_only}
-use Rattle.records.specs.Named.{add, named, spot}
+use Rattle.records.specs.Named.{add, spot}
 use Rattle.records.specs.declared.record.Task.{Task}
 use Rattle.records.specs.declared.record.Message.{Message}
 use Rattle.jobs.specs.declared.fault.Meeting.{Meeting}
 use Rattle.jobs.specs.declared.fault.TaskFault.{TaskFault}
 use Rattle.jobs.specs.declared.fault.TaskFault.TheVariants as task_fault
 use Rattle.jobs.specs.Jobs.{Jobs, Setting, task_name, task_named, with_task}
-use Rattle.jobs.specs.Meetings.{HeldJob, first_met, held_task}
+use Rattle.jobs.specs.Meetings.{first_met, held_task}
 use Rattle.jobs.specs.Past.{TaskPast}
-use Rattle.jobs.specs.Rules.{name_taken, offer_task, offered, task_refusal, task_timely}
-use Rattle.jobs.specs.Takes.{Take, core, number, task_take, task_takes, task_span}
+use Rattle.jobs.specs.Rules.{offer_task, offered, task_refusal}
+use Rattle.jobs.specs.Takes.{core, number, task_take, task_takes, task_span}
 use Rattle.jobs.proofs.Limits.{task_holds}
 use Rattle.plan.proofs.Placing.{task_passed}
-use Rattle.promise.specs.Clean.{Clean, Distinct, In, MessageMade, PacketTakes, RunTakes, TaskMade, Ways}
+use Rattle.promise.specs.Clean.{Clean, In, MessageMade, PacketTakes, RunTakes, TaskMade, Ways}
 use Rattle.promise.specs.Offers.{FirstMeeting, TaskOffer, TaskPassed, TaskWhy, TasksMeet}
 use Rattle.promise.proofs.Firsts.{FirstMet, first_met_none, first_met_some}
 use Rattle.promise.proofs.Lists.{add_new, add_old, apart_none, distinct_add_apart, in_add, in_cases, in_map, in_nil, map_in, named_add_other, named_in, spot_named}

@@ -4,7 +4,7 @@
 --   FirstMeeting                 the first meeting of all time, then the smallest held name, then the smallest place
 --   TaskOffer, MessageOffer      an offer past the checks is refused exactly where taking it would break the plan
 --   Smallest                     a placing answers the smallest value that an offer would be taken with
-use Rattle.std.specs.Prelude.{◌≡◌, ℕ, ◌+◌, ◌-◌, ◌<◌, ◌≤◌, true, ◌↔◌, List, length, ℤ, pos, Ok, Err, Result, ◌≢◌, int_lt}
+use Rattle.std.specs.Prelude.{◌≡◌, ℕ, ◌+◌, ◌<◌, ◌≤◌, true, ◌↔◌, List, length, pos, Ok, Err, Result, ◌≢◌, int_lt}
 use Rattle.holds.specs.Slack.{LeastSlack}
 use Rattle.records.specs.declared.record.Task.{Task}
 use Rattle.records.specs.declared.record.Message.{Message}

@@ -1,6 +1,7 @@
 // What a clean plan is, by the instants of all time, and that every call keeps it so: the laws of offers, placings, droppings and
 // questions, and the round trip of what is held. The list of calls that they are promised of stands in `replay`.
 #![tactic(auto)]
+
 ghost use Rattle.jobs.specs.Jobs.{Setting, nothing};
 ghost use Rattle.promise.specs.Canonical.{RoundTrip, SameBytes};
 ghost use Rattle.promise.specs.Clean.{Clean};

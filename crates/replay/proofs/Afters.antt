@@ -1,8 +1,6 @@
 -- What is held after a call, by its answer.
-use Rattle.std.proofs.Common.{◌≡◌, ℕ, Bool, true, false, cond, ◌⊎◌, List, is_some, Some, None, Ok, Err, Option, Result, sym, refl, ap, ◌∙◌, subst, inl, inr, ⊎_elim, arith}
+use Rattle.std.proofs.Common.{◌≡◌, ℕ, Bool, true, false, cond, List, is_some, Some, None, Ok, Err, Option, Result, sym, refl, subst, ⊎_elim, arith}
 use Rattle.records.specs.Named.{add, spot, without}
-use Rattle.records.specs.declared.record.Task.{Task}
-use Rattle.records.specs.declared.record.Message.{Message}
 use Rattle.jobs.specs.declared.fault.DropFault.{DropFault}
 use Rattle.jobs.specs.declared.fault.DropFault.TheVariants.{InUse, Unknown}
 use Rattle.jobs.specs.declared.fault.TaskFault.{TaskFault}
@@ -15,7 +13,6 @@ use Rattle.jobs.specs.Checks.{message_checks, task_checks}
 use Rattle.jobs.specs.Rules.{message_refusal, offered, task_refusal}
 use Rattle.promise.specs.Clean.{Clean, Distinct, In}
 use Rattle.promise.proofs.Lists.{add_new, add_old, in_add, in_without, without_old}
-use Rattle.replay.specs.declared.calls.Answer.{Answer}
 use Rattle.replay.specs.declared.calls.Answer.TheVariants as answer
 use Rattle.replay.specs.Calls.{Ask, ask, asking_core, asking_link, asking_slack, dropping_message, dropping_task, loading, offering_message, offering_task, placing_message, placing_task}
 use Rattle.replay.specs.Promise.{After, Less, More}

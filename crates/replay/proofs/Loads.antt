@@ -1,19 +1,17 @@
 -- What a load answers and leaves held, by the offers that it tries.
-use Rattle.std.proofs.Common.{◌≡◌, ℕ, zero, suc, ◌+◌, ◌<◌, ◌⊎◌, ◌↔◌, List, [], ◌∷◌, ◌++◌, length, Some, None, Ok, Err, Option, Result, sym, refl, ap, ◌∙◌, subst, inl, inr, ⊎_elim, arith, length-append}
+use Rattle.std.proofs.Common.{◌≡◌, ℕ, zero, suc, ◌+◌, List, [], ◌∷◌, ◌++◌, length, Some, None, Ok, Err, Option, Result, sym, refl, ap, subst, ⊎_elim, arith, length-append}
 use Rattle.std.specs.List.{slice_get}
 use Rattle.records.specs.declared.record.Task.{Task}
 use Rattle.records.specs.declared.record.Message.{Message}
 use Rattle.jobs.specs.declared.fault.TaskFault.{TaskFault}
 use Rattle.jobs.specs.declared.fault.MessageFault.{MessageFault}
-use Rattle.jobs.specs.Jobs.{Jobs, Setting, message_name, task_name, with_message, with_task}
+use Rattle.jobs.specs.Jobs.{Jobs, Setting, with_message, with_task}
 use Rattle.jobs.specs.Rules.{message_refusal, offered, offer_message, offer_task, task_refusal}
 use Rattle.plan.specs.Loading.{in_turn, job_part, load, load_messages, load_tasks, loaded, on_taken, past_messages, past_tasks}
 use Rattle.plan.specs.declared.fault.LayoutFault.{LayoutFault}
-use Rattle.plan.specs.declared.fault.LoadFault.{LoadFault}
-use Rattle.plan.specs.declared.fault.LoadFault.TheVariants as load_fault
 use Rattle.promise.specs.Clean.{In}
 use Rattle.promise.proofs.Lists.{append_in, in_cases, in_nil}
-use Rattle.replay.specs.Promise.{LoadTold, PartTold, Taken, Try, if_taken, load_tries, message_try, part_tries, task_try, turn_tries}
+use Rattle.replay.specs.Promise.{LoadTold, PartTold, Taken, Try, if_taken, message_try, part_tries, task_try, turn_tries}
 
 nth_left : {X : Type 0} (xs ys : List X) (n : ℕ) (x : X) → slice_get xs n ≡ Some x → slice_get (xs ++ ys) n ≡ Some x
 nth_left [] ys n x e = let z : ◌≡◌ {A = ℕ} 0 1 = cc in absurd (omega arith)

@@ -1,5 +1,6 @@
 // Lists of calls on a new plan over any fabric, and their answers.
 #![tactic(auto)]
+
 ghost use Rattle.jobs.specs.Jobs.{nothing, over};
 ghost use Rattle.plan.specs.Held.{jobs, setting};
 ghost use Rattle.promise.specs.Clean.{Clean};

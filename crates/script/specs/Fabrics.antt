@@ -1,6 +1,6 @@
 -- What a line that names a fabric is answered. Assumes nothing.
 --   mesh_reply, listed_reply    the fabric's nodes and link numbers, or its refusal
-use Rattle.std.specs.Prelude.{ℕ, List, Ok, Err, Result}
+use Rattle.std.specs.Prelude.{ℕ, List}
 use Rattle.fabric.specs.Grid.{grid_made}
 use Rattle.fabric.specs.Network.{Network}
 use Rattle.listed.specs.Setting.{network, setting_read}

@@ -1,5 +1,6 @@
 // Scripts of calls: a line read, an answer shown, and the calls of lines run.
 #![tactic(auto)]
+
 mod bytes;
 pub mod fabrics;
 mod forms;

@@ -1,5 +1,6 @@
 // Runs a script of calls over a fabric that no other crate knows, and prints each call with what it is answered.
 #![tactic(auto)]
+
 use anyhow::Context;
 use line::Shuttle;
 use script::line::Line;

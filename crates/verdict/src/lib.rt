@@ -1,5 +1,6 @@
 // The verdict on a whole plan file, as one line in a caller's buffer.
 #![tactic(auto)]
+
 mod fault;
 mod judging;
 

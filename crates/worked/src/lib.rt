@@ -1,5 +1,6 @@
 // Plans worked by hand, shown of the definitions that the library's contracts cite.
 #![tactic(auto)]
+
 ghost use Rattle.worked.specs.Worked.{Worked};
 ghost use Rattle.std.specs.Prelude.{◌≡◌};
 

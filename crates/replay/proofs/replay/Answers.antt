@@ -1,7 +1,7 @@
-use Rattle.std.proofs.Common.{◌≡◌, [], ◌∷◌, map, get_or, vec_items, sym, refl, ap, ◌∙◌, subst, rules}
+use Rattle.std.proofs.Common.{[], ◌∷◌, map, get_or, vec_items, sym, refl, ap, ◌∙◌, subst, rules}
 use Rattle.std.proofs.lemmas.Slice.{pushed}
 use Rattle.jobs.specs.Jobs.{over}
-use Rattle.plan.specs.Held.{jobs, setting}
+use Rattle.plan.specs.Held.{jobs}
 use Rattle.replay.specs.declared.calls.Call.{Call}
 use Rattle.replay.specs.declared.calls.Call.TheVariants.{OfferTask}
 use Rattle.replay.specs.Calls.{asked, ask}

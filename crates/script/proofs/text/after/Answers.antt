@@ -5,5 +5,5 @@ use Rattle.std.proofs.lemmas.Bool.Decides.{Decides-eqb}
 
 pub returns : goal.returns
 returns c =
-    after_is c.args.front.now c.args.text.now c.strip-prefix.result
-    (strip_prefix_is Decides-eqb c.args.text.now c.args.front.now c.strip-prefix.result c.strip-prefix.ensures.cases)
+    after_is c.args.front.now c.args.text.now c.strip_prefix.result
+    (strip_prefix_is Decides-eqb c.args.text.now c.args.front.now c.strip_prefix.result c.strip_prefix.ensures.cases)
