@@ -8,14 +8,15 @@ use Rattle.jobs.specs.Checks.{ends_checks, message_checks, packet_refusal, route
 use Rattle.jobs.specs.Rules.{ends_refusal, message_refusal, message_timely, name_taken, routed_refusal}
 
 module _ (g : Setting) (js : Jobs) (m : Message) where
-  routed : (s d : Task) (o : Option (List ℕ)) → routed_refusal g js m s d o ≡ routed_checks js o (packet_refusal g js m s d)
-  routed s d None = refl
-  routed s d (Some r) = refl
+  -- past the limits too
+  pub routed_checked : (s d : Task) (o : Option (List ℕ)) → routed_refusal g js m s d o ≡ routed_checks js o (packet_refusal g js m s d)
+  routed_checked s d None = refl
+  routed_checked s d (Some r) = refl
 
   ends : (s d : Option Task) → ends_refusal g js m s d ≡ ends_checks g js m s d (packet_refusal g js m)
   ends None d = refl
   ends (Some s) None = refl
-  ends (Some s) (Some d) = ap (λ x. cond (message_timely s m) x (Some message_fault.Times)) (routed s d (g.network.route s.core d.core))
+  ends (Some s) (Some d) = ap (λ x. cond (message_timely s m) x (Some message_fault.Times)) (routed_checked s d (g.network.route s.core d.core))
 
   -- a message is refused by the checks up to the room, or else as late or meeting
   pub message_checked : message_refusal g js m ≡ message_checks g js m (packet_refusal g js m)

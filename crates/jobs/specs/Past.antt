@@ -12,6 +12,13 @@ pub record TaskPast (nodes : ℕ) (js : Jobs) (t : Task) : Type 0 where
   pub timely : task_timely t ≡ true
   pub room : length js.tasks < 64
 
+-- a message from s to d: its name is free, both are held, and its times are within the limits
+pub record EndsPast (js : Jobs) (m : Message) (s d : Task) : Type 0 where
+  pub fresh : name_taken message_name m.name js.messages ≡ false
+  pub from : task_named js.tasks m.source ≡ Some s
+  pub to : task_named js.tasks m.destination ≡ Some d
+  pub timely : message_timely s m ≡ true
+
 -- from s to d there is a route, and there is room for a message
 pub record RoutePast (g : Setting) (js : Jobs) (s d : Task) : Type 0 where
   pub route : List ℕ

@@ -3,8 +3,8 @@ ghost use Rattle.std.specs.Prelude.{◌≡◌, ℕ, ◌<◌, true, false, List, 
 ghost use Rattle.jobs.specs.Jobs.{nothing, with_message, with_task};
 ghost use Rattle.jobs.specs.Numbers.{message_told, task_told};
 ghost use Rattle.jobs.specs.Checks.{message_checks, routed_checks, task_checks};
-ghost use Rattle.jobs.specs.Rules.{message_refusal, offer_message, offer_task, task_refusal};
-ghost use Rattle.jobs.specs.Past.{MessagePast, RoutePast, TaskPast};
+ghost use Rattle.jobs.specs.Rules.{message_refusal, offer_message, offer_task, routed_refusal, task_refusal};
+ghost use Rattle.jobs.specs.Past.{EndsPast, MessagePast, RoutePast, TaskPast};
 ghost use Rattle.jobs.specs.Placings.{on_way};
 ghost use Rattle.jobs.specs.declared.fault.MessageFault.{MessageFault as MessageFaultOf};
 ghost use Rattle.jobs.specs.declared.fault.TaskFault.{TaskFault as TaskFaultOf};
@@ -95,10 +95,9 @@ impl<'f, F: Fabric> Plan<'f, F> {
         Ok(())
     }
 
-    // The checks of a message that come before lateness and meetings: its source and destination, where it passes them.
-    pub(super) fn message_checks(&self, m: &Message) -> Result<(Task, Task), MessageFault>
-        ensures room { is_ok result ≡ true → self.now.message_count < 128 }
-        ensures checked { MatchResult result (λ p. MessagePast (setting F.Fabric.meaning self.now) (jobs self.now) m.now p.0 p.1) (λ e. (rest : TaskOf → TaskOf → List ℕ → Option MessageFaultOf) → message_checks (setting F.Fabric.meaning self.now) (jobs self.now) m.now rest ≡ Some e) }
+    // The checks of a message up to its times: its source and destination, where it passes them.
+    fn message_ends(&self, m: &Message) -> Result<(Task, Task), MessageFault>
+        ensures { MatchResult result (λ p. EndsPast (jobs self.now) m.now p.0 p.1) (λ e. (rest : TaskOf → TaskOf → List ℕ → Option MessageFaultOf) → message_checks (setting F.Fabric.meaning self.now) (jobs self.now) m.now rest ≡ Some e) }
     {
         if m.name == 0 || find(&self.messages[0..self.message_count], m.name).is_some() {
             return Err(MessageFault::Name);
@@ -113,9 +112,16 @@ impl<'f, F: Fabric> Plan<'f, F> {
         if !message::timely(&source, m) {
             return Err(MessageFault::Times);
         }
-        if let Err(fault) = self.route_checks(&source, &destination) {
-            return Err(fault);
-        }
+        Ok((source, destination))
+    }
+
+    // The checks of a message that come before lateness and meetings: its source and destination, where it passes them.
+    pub(super) fn message_checks(&self, m: &Message) -> Result<(Task, Task), MessageFault>
+        ensures room { is_ok result ≡ true → self.now.message_count < 128 }
+        ensures checked { MatchResult result (λ p. MessagePast (setting F.Fabric.meaning self.now) (jobs self.now) m.now p.0 p.1) (λ e. (rest : TaskOf → TaskOf → List ℕ → Option MessageFaultOf) → message_checks (setting F.Fabric.meaning self.now) (jobs self.now) m.now rest ≡ Some e) }
+    {
+        let (source, destination) = self.message_ends(m)?;
+        self.route_checks(&source, &destination)?;
         Ok((source, destination))
     }
 
@@ -154,13 +160,24 @@ impl<'f, F: Fabric> Plan<'f, F> {
         }
     }
 
+    // The first check past the limits that refuses a message between two held tasks.
+    fn way_refusal(&self, source: &Task, destination: &Task, m: &Message) -> Option<MessageFault>
+        ensures room { result ≡ None → self.now.message_count < 128 }
+        ensures answer { result ≡ routed_refusal (setting F.Fabric.meaning self.now) (jobs self.now) m.now source.now destination.now ((setting F.Fabric.meaning self.now).network.route source.now.core destination.now.core) }
+    {
+        match self.route_checks(source, destination) {
+            Ok(()) => self.packet_refusal(source, destination, m),
+            Err(fault) => Some(fault),
+        }
+    }
+
     // The first check that refuses a message.
     fn message_refusal(&self, m: &Message) -> Option<MessageFault>
         ensures room { result ≡ None → self.now.message_count < 128 }
         ensures answer { result ≡ message_refusal (setting F.Fabric.meaning self.now) (jobs self.now) m.now }
     {
-        match self.message_checks(m) {
-            Ok((source, destination)) => self.packet_refusal(&source, &destination, m),
+        match self.message_ends(m) {
+            Ok((source, destination)) => self.way_refusal(&source, &destination, m),
             Err(fault) => Some(fault),
         }
     }
