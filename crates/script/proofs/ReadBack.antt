@@ -7,7 +7,7 @@ use Rattle.std.proofs.lemmas.Bool.Decides.{nat_tests}
 use Rattle.std.specs.Str.Parse.{digits_value}
 use Rattle.std.specs.Char.{digit_value}
 use Rattle.std.specs.Fmt.{digit_glyph}
-use Rattle.std.specs.List.{AllByRecursion as All}
+use Rattle.std.specs.List.{AllByRecursion}
 use Rattle.std.specs.Str.{all_ascii_digits}
 use Rattle.replay.specs.Calls.{offering_task, offering_message, placing_task, placing_message, dropping_task, dropping_message, loading, asking_slack, asking_core, asking_link}
 use Rattle.script.specs.Fields.{field, number, numeral, then, unhexed, word_length}
@@ -59,7 +59,7 @@ glyph_back : (d : ℕ) → d < 16 → digit_value (digit_glyph true d) ≡ d
 glyph_back d h = grind (arith, nat_tests)
 
 -- the digits of bytes write them
-unhexed_back : (bs : List ℕ) → All Byte bs → unhexed (hex bs) ≡ Some bs
+unhexed_back : (bs : List ℕ) → AllByRecursion Byte bs → unhexed (hex bs) ≡ Some bs
 unhexed_back [] h = refl
 unhexed_back (b ∷ bs) h =
     let high = glyph_back (b / 16) (omega (arith, h.0)) in

@@ -5,7 +5,7 @@
 --   Calls-read-back, Meshes-read-back, Listed-read-back
 use Rattle.std.specs.Prelude.{◌≡◌, ℕ, ◌/◌, ◌%◌, ◌^◌, ◌<◌, true, List, [], ◌∷◌, ◌++◌, codes, decimal}
 use Rattle.std.specs.Fmt.{digit_glyph}
-use Rattle.std.specs.List.{AllByRecursion as All}
+use Rattle.std.specs.List.{AllByRecursion}
 use Rattle.replay.specs.Calls.{Ask, offering_task, offering_message, placing_task, placing_message, dropping_task, dropping_message, loading, asking_slack, asking_core, asking_link}
 use Rattle.script.specs.Readings.{read_line, mesh_fabric, listed_fabric, calling}
 
@@ -41,7 +41,7 @@ Fits (placing_task t) = (t.name < 2 ^ 16) × Byte t.core × (t.period < 2 ^ 32) 
 Fits (placing_message m) = (m.name < 2 ^ 16) × (m.source < 2 ^ 16) × (m.destination < 2 ^ 16) × Byte m.kind × (m.width < 2 ^ 32)
 Fits (dropping_task name) = name < 2 ^ 16
 Fits (dropping_message name) = name < 2 ^ 16
-Fits (loading part) = All Byte part
+Fits (loading part) = AllByRecursion Byte part
 Fits (asking_slack name) = name < 2 ^ 16
 Fits (asking_core core instant) = (core < 2 ^ 16) × (instant < 2 ^ 64)
 Fits (asking_link link instant) = (link < 2 ^ 16) × (instant < 2 ^ 64)
@@ -55,4 +55,4 @@ abbrev pub MeshesReadBack : Type 0
 MeshesReadBack = (x y delay : ℕ) → Byte x → Byte y → Byte delay → read_line (codes "fabric mesh " ++ spaced x (y ∷ (delay ∷ []))) ≡ mesh_fabric x y delay
 
 abbrev pub ListedReadBack : Type 0
-ListedReadBack = (file : List ℕ) → All Byte file → read_line (codes "fabric listed " ++ hex file) ≡ listed_fabric file
+ListedReadBack = (file : List ℕ) → AllByRecursion Byte file → read_line (codes "fabric listed " ++ hex file) ≡ listed_fabric file
