@@ -21,7 +21,7 @@ use Rattle.jobs.specs.Checks.{ends_checks, message_checks, packet_refusal, route
 use Rattle.jobs.specs.Rules.{message_refusal, message_timely, name_taken, offer_message, offer_task, offered, task_refusal, task_timely}
 use Rattle.promise.specs.Clean.{Clean}
 use Rattle.promise.specs.Offers.{EarlyMessage, EarlyTask, MessageAnswer, MessagePassed, MessageWhy, TaskAnswer, TaskPassed, TaskWhy}
-use Rattle.promise.proofs.Messages.{message_offer, past as message-past}
+use Rattle.promise.proofs.Messages.{message_offer, past as message_past}
 use Rattle.promise.proofs.Passing.{message_passes, task_passes}
 use Rattle.promise.proofs.Tasks.{past, task_offer}
 
@@ -157,7 +157,7 @@ task_place_early g js t clean = (
 pub message_place_early : (g : Setting) (most : ℕ) → most ≤ 64 → Lawful most g.network → (js : Jobs) (m : OpenMessage) → Clean g js
     → ((e : MessageFault) × ((place_message g js m).0 ≡ Err (message_placing.Offer e))) ↔ ((s d : Task) (r : List ℕ) → MessagePassed g js (message_at m 0) s d r → ⊥)
 message_place_early g most few laws js m clean = (
-  λ x s d r p. refused x.0 (first_delay g js m) x.1 (passed g js (message_at m 0) s d (message-past g most few laws js (message_at m 0) s d r clean p) (λ s d r. None)),
+  λ x s d r p. refused x.0 (first_delay g js m) x.1 (passed g js (message_at m 0) s d (message_past g most few laws js (message_at m 0) s d r clean p) (λ s d r. None)),
   λ broken. go (message_checks g js (message_at m 0) (λ s d r. None)) refl broken,
 )
   where

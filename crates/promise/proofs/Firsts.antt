@@ -179,7 +179,7 @@ pub record FirstMet (own : List Take) (held : List HeldJob) (m : Meeting) : Type
   pub least_place : (h : HeldJob) → In h held → (x y : Take) → In x own → In y h.takes → MeetAt x y m.instant → h.name ≡ m.held
       → m.place ≤ number x.place
 
-module _ (own : List Take) (held : List HeldJob) (own-sound : AllSound own) (held_sound : HeldSound held) where
+module _ (own : List Take) (held : List HeldJob) (own_sound : AllSound own) (held_sound : HeldSound held) where
   -- takes that meet have a first meeting, which is compared
   record Compared (h : HeldJob) (x y : Take) : Type 0 where
     meeting : Meeting
@@ -190,12 +190,12 @@ module _ (own : List Take) (held : List HeldJob) (own-sound : AllSound own) (hel
   compare h k x y a b n at = go (met h.name x y) refl
     where
       go : (o : Option Meeting) → met h.name x y ≡ o → Compared h x y
-      go None e = absurd (met_none h.name x y (own-sound x a) (held_sound h k y b) e n at)
+      go None e = absurd (met_none h.name x y (own_sound x a) (held_sound h k y b) e n at)
       go (Some m) e =
           record {
             meeting = m;
             compared = subst (λ (z : Option Meeting). In z (all_meetings own held)) e (in_all_meetings own held h x y k a b);
-            first = met_some h.name x y m (own-sound x a) (held_sound h k y b) e;
+            first = met_some h.name x y m (own_sound x a) (held_sound h k y b) e;
           }
 
   -- where no first meeting is told, nothing of the job meets anything held, at any instant of all time
@@ -225,7 +225,7 @@ module _ (own : List Take) (held : List HeldJob) (own-sound : AllSound own) (hel
 
       go : MetBy own held (Some m) → FirstMet own held m
       go b =
-          let f = met_some b.job.name b.mine b.theirs m (own-sound b.mine b.mine_in) (held_sound b.job b.job_in b.theirs b.theirs_in) (sym b.is) in
+          let f = met_some b.job.name b.mine b.theirs m (own_sound b.mine b.mine_in) (held_sound b.job b.job_in b.theirs b.theirs_in) (sym b.is) in
           record {
             job = b.job;
             mine = b.mine;

@@ -62,14 +62,14 @@ module _ (g : Setting) (P : Jobs → Type 0) where
   pub load_kept : ((js : Jobs) (t : Task) → P js → task_refusal g.network.nodes js t ≡ None → P (with_task js t))
       → ((js : Jobs) (m : Message) → P js → message_refusal g js m ≡ None → P (with_message js m))
       → (js : Jobs) (part : List ℕ) → P js → P (load g js part).1
-  load_kept keep-task keep-message js part here = go (job_part part)
+  load_kept keep_task keep_message js part here = go (job_part part)
     where
       tasks : (ts : List Task) → P (load_tasks g js 0 ts).1
-      tasks ts = turn_keeps P (task_refusal g.network.nodes) with_task keep-task js 0 ts here
+      tasks ts = turn_keeps P (task_refusal g.network.nodes) with_task keep_task js 0 ts here
 
       past : (ts : List Task) (ms : List Message) (r : Result (Unit {0}) (ℕ × TaskFault)) → P (past_tasks g ts ms r (load_tasks g js 0 ts).1).1
       past ts ms (Err e) = tasks ts
-      past ts ms (Ok u) = turn_keeps P (message_refusal g) with_message keep-message (load_tasks g js 0 ts).1 0 ms (tasks ts)
+      past ts ms (Ok u) = turn_keeps P (message_refusal g) with_message keep_message (load_tasks g js 0 ts).1 0 ms (tasks ts)
 
       go : (o : Result (List Task × List Message) LayoutFault) → P (loaded g js o).1
       go (Err e) = here

@@ -200,27 +200,27 @@ module _ (g : Setting) (most : ℕ) (few : most ≤ 64) (laws : Lawful most g.ne
   message_offer = subst (λ o. MessageOffer g js m s d r (offered o js (with_message js m)).0) (sym refusal_is) (go slack met refl refl)
     where
       go : (v : Option ℤ) (o : Option Meeting) → slack ≡ v → met ≡ o → MessageOffer g js m s d r (offered (late v (option_map message_fault.Meets o)) js (with_message js m)).0
-      go None None is-v is-o =
+      go None None is_v is_o =
           record {
-            exact = (λ x. absurd (no_err x.0 x.1), λ broken. absurd (broken (keeps (on is-v) (met_is None is-o))));
-            taken = λ _. keeps (on is-v) (met_is None is-o);
+            exact = (λ x. absurd (no_err x.0 x.1), λ broken. absurd (broken (keeps (on is_v) (met_is None is_o))));
+            taken = λ _. keeps (on is_v) (met_is None is_o);
             why = λ e x. absurd (no_err e x);
           }
         where
           no_err : (e : MessageFault) → ◌≡◌ {A = Result (Unit {0}) MessageFault} (Ok tt) (Err e) → ⊥
           no_err e x = let z : ◌≡◌ {A = ℕ} 0 1 = cc in omega arith
-      go None (Some x) is-v is-o =
-          let f = first_is x (met_is (Some x) is-o) in
+      go None (Some x) is_v is_o =
+          let f = first_is x (met_is (Some x) is_o) in
           record {
             exact = (λ _. meeting_breaks x f, λ _. (message_fault.Meets x, refl));
             taken = λ k. absurd (let z : ◌≡◌ {A = ℕ} 0 1 = cc in omega arith);
-            why = λ e k. let same : message_fault.Meets x ≡ e = cc in subst (MessageWhy g js m s d r) same (on is-v, f);
+            why = λ e k. let same : message_fault.Meets x ≡ e = cc in subst (MessageWhy g js m s d r) same (on is_v, f);
           }
-      go (Some v) o is-v is-o =
-          let least = late_least g most few laws s d m source_timely destination_timely timely r p.ways.along v is-v in
-          let neg = (below (message_slack g.network.delay s d m (length r)) v is-v).1 in
+      go (Some v) o is_v is_o =
+          let least = late_least g most few laws s d m source_timely destination_timely timely r p.ways.along v is_v in
+          let neg = (below (message_slack g.network.delay s d m (length r)) v is_v).1 in
           record {
-            exact = (λ _. late_breaks_it v is-v, λ _. (message_fault.Late v, refl));
+            exact = (λ _. late_breaks_it v is_v, λ _. (message_fault.Late v, refl));
             taken = λ k. absurd (let z : ◌≡◌ {A = ℕ} 0 1 = cc in omega arith);
             why = λ e k. let same : message_fault.Late v ≡ e = cc in subst (MessageWhy g js m s d r) same (least, neg);
           }

@@ -93,17 +93,17 @@ module _ {R : Type 0} (form : R → List ℕ) (parsed : List ℕ → Option R) (
 
 -- ---- the part
 
-module _ (js : Jobs) (tasks-few : length js.tasks ≤ 65535) (messages-few : length js.messages ≤ 65535)
+module _ (js : Jobs) (tasks_few : length js.tasks ≤ 65535) (messages_few : length js.messages ≤ 65535)
     (tasks_fit : (t : Task) → In t js.tasks → TaskSized t) (messages_fit : (m : Message) → In m js.messages → MessageSized m) where
   -- the tasks are cut off the front, the messages are what is left, and the records of each read back
   pub part_back : job_part (part_bytes js) ≡ Ok (js.tasks, js.messages)
   part_back =
       let ts = section_back task_form task_of (λ t. refl) js.tasks (λ t i. task_back t (tasks_fit t i)) in
       let ms = section_back message_form message_of (λ m. refl) js.messages (λ m i. message_back m (messages_fit m i)) in
-      let cut-tasks = section_cut task_form task_of (λ t. refl) js.tasks (section_bytes message_form js.messages) tasks-few in
-      let cut-messages : cut_of 16 (section_bytes message_form js.messages) ≡ Ok (forms message_form js.messages, []) =
-      ap (cut_of 16) (sym (append-nil (section_bytes message_form js.messages))) ∙ section_cut message_form message_of (λ m. refl) js.messages [] messages-few in
-      ap tasks_cut cut-tasks
-      ∙ ap (messages_cut (forms task_form js.tasks)) cut-messages
+      let cut_tasks = section_cut task_form task_of (λ t. refl) js.tasks (section_bytes message_form js.messages) tasks_few in
+      let cut_messages : cut_of 16 (section_bytes message_form js.messages) ≡ Ok (forms message_form js.messages, []) =
+      ap (cut_of 16) (sym (append-nil (section_bytes message_form js.messages))) ∙ section_cut message_form message_of (λ m. refl) js.messages [] messages_few in
+      ap tasks_cut cut_tasks
+      ∙ ap (messages_cut (forms task_form js.tasks)) cut_messages
       ∙ ap (λ r. both_read r (section_records message_of 16 (forms message_form js.messages))) ts
       ∙ ap (both_read (Ok js.tasks)) ms
