@@ -18,6 +18,7 @@ GOAL = re.compile(r"^(?:(?:abbrev|pub)\s+)*(\S+) : goal\.", re.M)
 # Names that would fall together with another, or say too little on their own.
 OWN = {
     "First-meeting": "MeetingIsFirst",
+    "Laid_out": "LaidOut",
     "messageAt": "message_in",
     "routeAt": "route_in",
     "taskAt": "task_in",

@@ -1,5 +1,5 @@
 -- What the laws of a fabric give of its answers, for code over any fabric. Assumes nothing.
--- An answer comes as the questions' contracts give it: `Some k ≡ route-length o`, `Some x ≡ route-place o i`, `None ≡ ..`.
+-- An answer comes as the questions' contracts give it: `Some k ≡ route_length o`, `Some x ≡ route_place o i`, `None ≡ ..`.
 use Rattle.std.proofs.Common.{◌≡◌, ℕ, zero, suc, ◌+◌, ◌<◌, ◌≤◌, List, [], ◌∷◌, length, get_or, drop, Some, None, Option, refl, ap, ◌∙◌, ⊎_elim, arith}
 use Rattle.std.specs.List.{slice_get}
 use Rattle.std.proofs.lemmas.List.{drop_more, at_drop_all}
@@ -70,7 +70,7 @@ chain_link link a b [] h i d lt = absurd (omega arith)
 chain_link link a b (l ∷ ls) (m, e, h) zero d lt = ((a, m), e)
 chain_link link a b (l ∷ ls) (m, e, h) (suc i) d lt = chain_link link m b ls h i d (omega arith)
 
--- the bounds that the laws give, for the route from node a to node b; the hop delay's is `low-delay` itself
+-- the bounds that the laws give, for the route from node a to node b; the hop delay's is `low_delay` itself
 module _ {longest : ℕ} {n : Network} (laws : Lawful longest n) (a b : ℕ) where
   -- an answered length is within the kind's longest
   pub answer_short : (k : ℕ) → Some k ≡ route_length (n.route a b) → k ≤ longest

@@ -1,5 +1,5 @@
 -- What a fabric means, and the laws that every fabric keeps. Assumes nothing.
--- Network: the meaning. Chain, Once: what a route is. route-length, route-place: a route as it is asked for. Lawful: the laws and limits.
+-- Network: the meaning. Chain, Once: what a route is. route_length, route_place: a route as it is asked for. Lawful: the laws and limits.
 use Rattle.std.specs.Prelude.{◌≡◌, ℕ, ◌<◌, ◌≤◌, List, [], ◌∷◌, length, Some, None, Option, ◌≢◌, slice_index}
 use Rattle.std.specs.List.{slice_get}
 

@@ -5,7 +5,7 @@
 --   listed_head                the head of a listed fabric
 --   section_read               a section of at most so many records
 --   link_fault, route_fault    what is wrong with a record
---   setting_read               all of it, in order, by head-set, links-set and routes-set
+--   setting_read               all of it, in order, by head_set, links_set and routes_set
 use Rattle.std.specs.Prelude.{ℕ, zero, suc, ◌+◌, Bool, false, cond, ◌&&◌, List, [], Some, None, Ok, Err, Option, Result, ◌==◌, nat_le, nat_lt}
 use Rattle.records.specs.declared.head.Head.{Head as FileHead}
 use Rattle.records.specs.declared.head.HeadFault.{HeadFault}

@@ -33,7 +33,7 @@ abbrev pub job_part : List ℕ → Result (List Task × List Message) LayoutFaul
 job_part bytes = tasks_cut (cut_of 16 bytes)
 
 -- the bytes of the two sections hold the tasks and messages of a job part
-pub record Laid_out (part tasks messages : List ℕ) : Type 0 where
+pub record LaidOut (part tasks messages : List ℕ) : Type 0 where
   pub some_tasks : List Task
   pub some_messages : List Message
   pub task_records : section_records task_of 16 tasks ≡ Ok some_tasks

@@ -1,5 +1,5 @@
 // The layout of a job part: the tasks, the messages, and nothing after them.
-ghost use Rattle.plan.specs.Loading.{Laid_out, both_read, job_part};
+ghost use Rattle.plan.specs.Loading.{LaidOut, both_read, job_part};
 ghost use Rattle.records.specs.Forms.{message_of, task_of};
 ghost use Rattle.records.specs.Sections.{section_records};
 ghost use Rattle.std.specs.Prelude.{◌≡◌, Err, MatchResult};
@@ -35,7 +35,7 @@ fn sections(part: &[u8]) -> Result<JobPart<'_>, LayoutFault>
 
 // The two sections of a job part, each of whose records is one.
 pub(crate) fn layout(part: &[u8]) -> Result<JobPart<'_>, LayoutFault>
-    ensures { MatchResult result (λ p. Laid_out part.now p.tasks.bytes.now p.messages.bytes.now) (λ e. job_part part.now ≡ Err e) }
+    ensures { MatchResult result (λ p. LaidOut part.now p.tasks.bytes.now p.messages.bytes.now) (λ e. job_part part.now ≡ Err e) }
 {
     let job = sections(part)?;
     if let Some(place) = job.tasks.unread() {

@@ -1,7 +1,7 @@
 -- Lists of bytes: big-endian numbers, and parts of a list. Assumes nothing.
 --   Bytes      each element is a byte
 --   be         the number that some bytes write
---   bytes_of    the bytes that write a number
+--   bytes_of   the bytes that write a number
 --   listing    some elements from a place on
 use Rattle.std.specs.Prelude.{ℕ, zero, suc, ◌+◌, ◌*◌, ◌/◌, ◌%◌, ◌<◌, List, [], ◌∷◌, slice_index}
 

@@ -1,5 +1,5 @@
 -- The head of a plan file: six bytes, and what follows them. Assumes nothing.
---   head_of       the head at the front of a file, and the rest
+--   head_of      the head at the front of a file, and the rest
 --   head_known   a head of this version
 --   head_read    what reading the head answers
 --   head_number  the number of each fault

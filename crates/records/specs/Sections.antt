@@ -1,7 +1,7 @@
 -- Sections: a 16-bit count and then so many records of one size. Assumes nothing.
---   count_of           the count at the front of a file
+--   count_of          the count at the front of a file
 --   fitting           how many whole records a file has after its count
---   cut_of             the section at the front of a file, and the rest
+--   cut_of            the section at the front of a file, and the rest
 --   record_at         the record at a place of a section
 --   section_records   all records of a section, or the place of the first that is none
 use Rattle.std.specs.Prelude.{ℕ, zero, suc, ◌+◌, ◌-◌, ◌*◌, ◌/◌, cond, List, [], ◌∷◌, length, take, drop, Some, None, Ok, Err, Option, Result, nat_lt}

@@ -2,7 +2,7 @@
 --   hex, spaced     bytes in upper-case hexadecimal, and decimal numbers between single spaces
 --   line_of         the line of a call
 --   Fits            the numbers of a call fit their fields
---   Calls-read-back, Meshes-read-back, Listed-read-back
+--   CallsReadBack, MeshesReadBack, ListedReadBack
 use Rattle.std.specs.Prelude.{◌≡◌, ℕ, ◌/◌, ◌%◌, ◌^◌, ◌<◌, true, List, [], ◌∷◌, ◌++◌, codes, decimal}
 use Rattle.std.specs.Fmt.{digit_glyph}
 use Rattle.std.specs.List.{AllByRecursion}

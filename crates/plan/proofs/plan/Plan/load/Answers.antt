@@ -4,7 +4,7 @@ use Rattle.records.proofs.Sections.{section_length}
 use Rattle.jobs.specs.Jobs.{over}
 use Rattle.refusals.specs.Told.{refusal_of}
 use Rattle.plan.specs.Held.{jobs, setting}
-use Rattle.plan.specs.Loading.{Laid_out, load, loaded, load_tasks, load_messages, past_tasks, past_messages}
+use Rattle.plan.specs.Loading.{LaidOut, load, loaded, load_tasks, load_messages, past_tasks, past_messages}
 use Rattle.plan.specs.Told.{load_told}
 use Rattle.plan.proofs.plan.Plan.load.Goals as goal
 
@@ -15,7 +15,7 @@ returns g c =
     let s = setting g.F.Fabric.meaning p in
     let js = jobs p in
     let mid = c.load_tasks.new.self in
-    let laid : Laid_out c.args.part.now c.in_ok-job.job.tasks.bytes.now c.in_ok-job.job.messages.bytes.now = c.in_ok-job.ensures in
+    let laid : LaidOut c.args.part.now c.in_ok-job.job.tasks.bytes.now c.in_ok-job.job.messages.bytes.now = c.in_ok-job.ensures in
     let ts = laid.some_tasks in
     let ms = laid.some_messages in
     let same : setting g.F.Fabric.meaning mid ≡ s = ap (λ f. over g.F.Fabric.meaning f.now) c.load_tasks.ensures.fabric in
