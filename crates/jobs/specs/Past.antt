@@ -25,10 +25,7 @@ pub record RoutePast (g : Setting) (js : Jobs) (s d : Task) : Type 0 where
   pub along : g.network.route s.core d.core ≡ Some route
   pub room : length js.messages < 128
 
--- a message from s to d: its name is free, both are held, its times are within the limits, there is a route, and there is room
+-- a message from s to d that is past those of its ends: there is a route, and there is room
 pub record MessagePast (g : Setting) (js : Jobs) (m : Message) (s d : Task) : Type 0 where
-  pub fresh : name_taken message_name m.name js.messages ≡ false
-  pub from : task_named js.tasks m.source ≡ Some s
-  pub to : task_named js.tasks m.destination ≡ Some d
-  pub timely : message_timely s m ≡ true
+  pub ends : EndsPast js m s d
   pub way : RoutePast g js s d

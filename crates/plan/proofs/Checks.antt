@@ -23,6 +23,6 @@ between g js m s d p rest =
 pub passed : (g : Setting) (js : Jobs) (m : Message) (s d : Task) (p : MessagePast g js m s d) (rest : Task → Task → List ℕ → Option MessageFault)
     → message_checks g js m rest ≡ rest s d p.way.route
 passed g js m s d p rest =
-    between g js m s d (record { fresh = p.fresh; from = p.from; to = p.to; timely = p.timely }) rest
+    between g js m s d p.ends rest
     ∙ ap (λ o. routed_checks js o (rest s d)) p.way.along
     ∙ cond-false (leb 128 (length js.messages)) _ _ (lt-leb 128 (length js.messages) p.way.room)

@@ -56,7 +56,9 @@ module _ (g : Setting) (js : Jobs) (t : OpenTask) (p : TaskPast g.network.nodes 
 
 -- what passes with delay 0 passes with every delay of the range
 other_delay : (g : Setting) (js : Jobs) (m : OpenMessage) (s d : Task) → MessagePast g js (message_at m 0) s d → (v : ℕ) → v < s.period → MessagePast g js (message_at m v) s d
-other_delay g js m s d p v lt = let e = p.timely in record { fresh = p.fresh; from = p.from; to = p.to; timely = grind (arith, nat_tests); way = p.way }
+other_delay g js m s d p v lt =
+    let e = p.ends.timely in
+    record { ends = record { fresh = p.ends.fresh; from = p.ends.from; to = p.ends.to; timely = grind (arith, nat_tests) }; way = p.way }
 
 module _ (g : Setting) (js : Jobs) (m : OpenMessage) (s d : Task) (p : MessagePast g js (message_at m 0) s d) where
   -- an offer with a delay of the range is refused for lateness or a meeting, or not at all
@@ -71,7 +73,7 @@ module _ (g : Setting) (js : Jobs) (m : OpenMessage) (s d : Task) (p : MessagePa
   pub delays_are : (o : Option ℕ) → o ≡ first_from (λ v. clear (on_way g js (message_at m v) s d (g.network.route s.core d.core))) s.period 0 → o ≡ first_delay g js m
   delays_are o e =
       e ∙ sym (first_same _ _ s.period (λ v lt. ap clear (refused_on_way v lt)))
-      ∙ ap (λ t. first_from (λ v. clear (message_refusal g js (message_at m v))) (delays t) 0) (sym p.from)
+      ∙ ap (λ t. first_from (λ v. clear (message_refusal g js (message_at m v))) (delays t) 0) (sym p.ends.from)
 
   -- and the placing goes by it
   pub message_goes : (o : Option ℕ) → o ≡ first_delay g js m → place_message g js m ≡ message_placed js m None o

@@ -64,10 +64,12 @@ module _ (g : Setting) (most : ℕ) (few : most ≤ 64) (laws : Lawful most g.ne
       let none : is_some (spot message_name m.name js.messages) ≡ false =
       spot_named message_name m.name js.messages ∙ ap is_some (apart_none message_name m.name js.messages p.fresh) in
       record {
-        fresh = or_from _ _ (ne_eqb m.name 0 (λ e. let z = p.named in omega arith)) none;
-        from = p.ways.from;
-        to = p.ways.to;
-        timely = timely;
+        ends = record {
+          fresh = or_from _ _ (ne_eqb m.name 0 (λ e. let z = p.named in omega arith)) none;
+          from = p.ways.from;
+          to = p.ways.to;
+          timely = timely;
+        };
         way = record { route = r; along = p.ways.along; room = p.room };
       }
 
