@@ -1,10 +1,10 @@
 -- The first fault among records, and what follows where there is none. Assumes nothing.
-use Rattle.std.proofs.Common.{◌≡◌, ℕ, zero, suc, ◌+◌, ◌-◌, ◌<◌, ◌≤◌, Bool, true, false, cond, ◌&&◌, List, Some, None, Option, sym, refl, ap, ◌∙◌, add-zero, zero-add, arith}
+use Rattle.std.proofs.Common.{◌≡◌, ℕ, zero, suc, ◌+◌, ◌-◌, ◌<◌, ◌≤◌, Bool, true, false, cond, ◌&&◌, List, Some, None, Ok, Err, Option, sym, refl, ap, ◌∙◌, add-zero, zero-add, arith}
 use Rattle.std.proofs.lemmas.Bool.{and_from, and_parts}
 use Rattle.listed.specs.declared.faults.SetFault.TheVariants.{Link, Route, Chain, Order}
 use Rattle.records.specs.declared.record.Route.{Route as RouteRecord}
 use Rattle.listed.specs.Records.{link_count, link_at, link_good, route_count, route_at, route_prior, route_shape, route_names, route_leads, route_above, route_good}
-use Rattle.listed.specs.Setting.{either, first_fault, link_fault, record_fault, route_fault, links_fault, routes_fault}
+use Rattle.listed.specs.Setting.{either, checked, first_fault, link_fault, record_fault, route_fault, links_fault, routes_fault}
 
 module _ {E : Type 0} (f : ℕ → Option E) where
   -- one turn of a walk over n records
@@ -22,6 +22,20 @@ module _ {E : Type 0} (f : ℕ → Option E) where
   -- nothing is left
   pub first_all : (k n : ℕ) → n ≤ k → first_fault f k (n - k) ≡ None
   first_all k n h = let e : n - k ≡ 0 = omega arith in rw e
+
+  -- a check of record k that refuses ends the walk with its fault
+  pub check_here : (k n : ℕ) (all : Option E) (e : E) → k < n → checked (f k) ≡ Err e → first_fault f k (n - k) ≡ all → Err e ≡ checked all
+  check_here k n all e h refuses was = ends (f k) refl refuses where
+    ends : (o : Option E) → f k ≡ o → checked o ≡ Err e → Err e ≡ checked all
+    ends None is r = let z : ◌≡◌ {A = ℕ} 0 1 = cc in absurd (omega arith)
+    ends (Some x) is r = sym r ∙ ap checked (sym (first_here k n x h is) ∙ was)
+
+  -- a check that passes leads on to the next
+  pub check_pass : (k n : ℕ) → k < n → checked (f k) ≡ Ok tt → first_fault f k (n - k) ≡ first_fault f (k + 1) (n - (k + 1))
+  check_pass k n h passes = on (f k) refl passes where
+    on : (o : Option E) → f k ≡ o → checked o ≡ Ok tt → first_fault f k (n - k) ≡ first_fault f (k + 1) (n - (k + 1))
+    on None is r = first_pass k n h is
+    on (Some x) is r = let z : ◌≡◌ {A = ℕ} 0 1 = cc in absurd (omega arith)
 
   -- of two without a fault neither has one
   front_none : (o p : Option E) → either o p ≡ None → (o ≡ None) × (p ≡ None)

@@ -5,6 +5,7 @@
 --   route_leads, route_above  its links lead from node to node, none twice; it stands above the record before
 --   listed                    the network of good records
 use Rattle.std.specs.Prelude.{◌≡◌, ℕ, zero, suc, ◌+◌, ◌-◌, ◌/◌, ◌<◌, Bool, true, false, cond, not, ◌&&◌, ◌||◌, List, [], ◌∷◌, length, take, drop, Some, None, Option, ◌==◌, nat_le, nat_lt}
+use Rattle.std.specs.List.{list_all, list_any}
 use Rattle.std.specs.Option.{option_map}
 use Rattle.records.specs.declared.record.Link.{Link}
 use Rattle.records.specs.declared.record.Route.{Route}
@@ -52,8 +53,7 @@ route_shape n r =
 
 -- each number is below a limit
 abbrev pub all_below : ℕ → List ℕ → Bool
-all_below m [] = true
-all_below m (l ∷ rest) = nat_lt l m && all_below m rest
+all_below m ls = list_all (λ l. nat_lt l m) ls
 
 -- the link numbers are those of m links, and the unused ones are zero
 abbrev pub route_names : ℕ → Route → Bool
@@ -71,8 +71,7 @@ chain_good ls a (l ∷ rest) b = hop (link_at ls l) a (λ m. chain_good ls m res
 
 -- the number l stands in a list
 abbrev pub member : ℕ → List ℕ → Bool
-member l [] = false
-member l (m ∷ rest) = cond (m == l) true (member l rest)
+member l ls = list_any (λ m. m == l) ls
 
 -- no number stands twice
 abbrev pub once_good : List ℕ → Bool

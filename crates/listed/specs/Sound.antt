@@ -1,5 +1,5 @@
 -- The proof that good records make a lawful network, which the fabric's ghost member needs. Assumes nothing.
-use Rattle.std.specs.Prelude.{◌≡◌, ℕ, zero, suc, ◌+◌, ◌/◌, ◌<◌, ◌≤◌, Bool, true, false, cond, not, ◌&&◌, ◌⊎◌, List, [], ◌∷◌, length, Some, None, Option, ◌==◌, ◌≢◌, nat_eq, nat_le, nat_lt, slice_index, refl}
+use Rattle.std.specs.Prelude.{◌≡◌, ℕ, zero, suc, ◌+◌, ◌/◌, ◌<◌, ◌≤◌, Bool, true, false, cond, not, ◌&&◌, ◌||◌, ◌⊎◌, List, [], ◌∷◌, length, Some, None, Option, ◌==◌, ◌≢◌, nat_eq, nat_le, nat_lt, slice_index, refl}
 use Rattle.std.proofs.Common.{sym, ap, subst, ◌∙◌, inl, inr, ⊎_elim, arith, length-take}
 use Rattle.std.proofs.lemmas.Bool.{lt-ltb, ltb-true, leb-true, eqb-true, eqb-false, eq-eqb, cases_Bool, and_parts, and_from, cond-true, cond-false, not-true, both_ways}
 use Rattle.std.specs.Option.{option_map}
@@ -37,10 +37,10 @@ chain_sound ls a (l ∷ xs) b h =
 -- a number at a place is a member
 member_at : (l : ℕ) (xs : List ℕ) (j : ℕ) → j < length xs → slice_index xs j ≡ l → member l xs ≡ true
 member_at l [] j h e = absurd (omega arith)
-member_at l (x ∷ xs) zero h e = cond-true _ _ _ (eq-eqb x l e)
+member_at l (x ∷ xs) zero h e = ap (λ t. t || member l xs) (eq-eqb x l e)
 member_at l (x ∷ xs) (suc j) h e =
     let rest : member l xs ≡ true = member_at l xs j (omega arith) e in
-    elim (x == l) as (λ t. cond t true (member l xs) ≡ true) [ true ↦ refl | false ↦ rest ]
+    elim (x == l) as (λ t. (t || member l xs) ≡ true) [ true ↦ refl | false ↦ rest ]
 
 -- numbers that pass the test stand once each
 once_sound : (xs : List ℕ) → once_good xs ≡ true → Once xs

@@ -7,9 +7,9 @@ ghost use Rattle.listed.specs.Setting.{setting_of, network};
 ghost use Rattle.listed.specs.Sound.{listed_lawful};
 
 use super::Listed;
-use super::places::{link_at, route_at};
 use fabric::Fabric;
 use records::record::Route;
+use records::section::Section;
 
 impl<'a> Fabric for Listed<'a> {
     const LONGEST: usize = 12;
@@ -20,7 +20,7 @@ impl<'a> Fabric for Listed<'a> {
 
     ghost bounded = { lit≤ tt };
 
-    ghost lawful = { λ s. listed_lawful s.nodes s.delay s.links.now s.routes.now s.sized.0 s.sized.1 s.slow s.few s.linked s.routed };
+    ghost lawful = { λ s. listed_lawful s.nodes s.delay s.links.bytes.now s.routes.bytes.now s.sized.0 s.sized.1 s.slow s.few s.linked s.routed };
 
     fn reach() -> usize
         ensures { result ≡ 12 }
@@ -33,7 +33,7 @@ impl<'a> Fabric for Listed<'a> {
     }
 
     fn link_numbers(&self) -> usize {
-        self.links.len() / 2
+        self.links.count()
     }
 
     fn hop_delay(&self) -> usize {
@@ -41,7 +41,7 @@ impl<'a> Fabric for Listed<'a> {
     }
 
     fn link(&self, l: usize) -> Option<(usize, usize)> {
-        let link = link_at(self.links, l)?;
+        let link = self.links.get(l)?;
         Some((link.from as usize, link.to as usize))
     }
 
@@ -52,7 +52,7 @@ impl<'a> Fabric for Listed<'a> {
         if from == to {
             return Some(0);
         }
-        let route = find(self.routes, from, to)?;
+        let route = find(&self.routes, from, to)?;
         Some(route.length as usize)
     }
 
@@ -60,7 +60,7 @@ impl<'a> Fabric for Listed<'a> {
         if from >= self.nodes as usize || to >= self.nodes as usize || from == to {
             return None;
         }
-        let route = find(self.routes, from, to)?;
+        let route = find(&self.routes, from, to)?;
         if place >= route.length as usize {
             return None;
         }
@@ -69,12 +69,12 @@ impl<'a> Fabric for Listed<'a> {
 }
 
 // The record of the route from one node to another.
-fn find(routes: &[u8], from: usize, to: usize) -> Option<Route>
-    ensures answer { option_map route_links result ≡ seek routes.now from to 0 (route_count routes.now) }
-    ensures stands { IfSome result (Stands routes.now) }
+fn find(routes: &Section<'_, Route>, from: usize, to: usize) -> Option<Route>
+    ensures answer { option_map route_links result ≡ seek routes.now.bytes.now from to 0 (route_count routes.now.bytes.now) }
+    ensures stands { IfSome result (Stands routes.now.bytes.now) }
 {
-    for k in 0..routes.len() / 16 {
-        if let Some(route) = route_at(routes, k) {
+    for k in 0..routes.count() {
+        if let Some(route) = routes.get(k) {
             if route.from as usize == from && route.to as usize == to {
                 return Some(route);
             }

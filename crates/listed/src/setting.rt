@@ -5,11 +5,11 @@ ghost use Rattle.listed.specs.Told.{set_told};
 ghost use Rattle.refusals.specs.Told.{refusal_of};
 ghost use Rattle.listed.specs.Setting.{setting_of, alone, head_fits, listed_head, section_read, setting_read};
 
-use super::checks::{first_of_links, first_of_routes};
+use super::checks::{check_links, check_routes};
 use super::{Listed, SectionFault, SetFault};
 use records::head::{Head, HeadFault, read_head};
-use records::record::{Link, Record, Route};
-use records::section::{counted, cut};
+use records::record::Record;
+use records::section::{Section, counted, cut};
 
 // Whether a head is within the limits of a listed fabric.
 fn fits(head: &Head) -> bool
@@ -32,23 +32,18 @@ fn read_listed_head(file: &[u8]) -> Result<(Head, &[u8]), HeadFault>
     Ok((head, rest))
 }
 
-// The bytes of a section of at most `limit` records, and what follows it.
+// A section of at most `limit` records, and what follows it.
 pub fn read_section<'a, R: Record>(
     file: &'a [u8],
     limit: u16,
-) -> Result<(&'a [u8], &'a [u8]), SectionFault>
-    ensures answer { MatchResult result (λ p. section_read R.Record.size limit file.now ≡ Ok (p.0.now, p.1.now)) (λ e. section_read R.Record.size limit file.now ≡ Err e) }
-    ensures few { IfOk result (λ p. length p.0.now ≤ limit * R.Record.size) }
+) -> Result<(Section<'a, R>, &'a [u8]), SectionFault>
+    ensures answer { MatchResult result (λ p. section_read R.Record.size limit file.now ≡ Ok (p.0.bytes.now, p.1.now)) (λ e. section_read R.Record.size limit file.now ≡ Err e) }
+    ensures few { IfOk result (λ p. length p.0.bytes.now ≤ limit * R.Record.size) }
 {
-    if let Some(n) = counted(file) {
-        if n > limit {
-            return Err(SectionFault::Many);
-        }
+    if counted(file).is_some_and(|n| n > limit) {
+        return Err(SectionFault::Many);
     }
-    match cut::<R>(file) {
-        Ok((section, rest)) => Ok((section.bytes, rest)),
-        Err(off) => Err(SectionFault::Short(off.whole)),
-    }
+    cut(file).map_err(|off| SectionFault::Short(off.whole))
 }
 
 impl<'a> Listed<'a> {
@@ -59,8 +54,8 @@ impl<'a> Listed<'a> {
         Listed {
             nodes: 1,
             delay: 0,
-            links: &[],
-            routes: &[],
+            links: Section::over(&[]),
+            routes: Section::over(&[]),
         }
     }
 
@@ -71,20 +66,10 @@ impl<'a> Listed<'a> {
         ensures refused { is_ok result ≡ false → self.new ≡ self.old }
     {
         let (head, body) = read_listed_head(file)?;
-        let (links, tail) = match read_section::<Link>(body, 128) {
-            Ok(parts) => parts,
-            Err(fault) => return Err(SetFault::Links(fault)),
-        };
-        if let Some(fault) = first_of_links(head.x, links) {
-            return Err(fault);
-        }
-        let (routes, rest) = match read_section::<Route>(tail, 256) {
-            Ok(parts) => parts,
-            Err(fault) => return Err(SetFault::Routes(fault)),
-        };
-        if let Some(fault) = first_of_routes(head.x, links, routes) {
-            return Err(fault);
-        }
+        let (links, tail) = read_section(body, 128).map_err(SetFault::Links)?;
+        check_links(head.x, &links)?;
+        let (routes, rest) = read_section(tail, 256).map_err(SetFault::Routes)?;
+        check_routes(head.x, &links, &routes)?;
         *self = Listed {
             nodes: head.x,
             delay: head.delay,

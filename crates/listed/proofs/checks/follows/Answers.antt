@@ -7,7 +7,7 @@ use Rattle.listed.proofs.checks.follows.Goals as goal
 pub returns-in_default : goal.returns-in_default
 returns-in_default c =
     let i = c.loop-n.n-index in
-    let ls = c.args.links.now in
+    let ls = c.args.links.now.bytes.now in
     let xs = c.args.numbers.now in
     let here : link_at ls (get_or xs i 0) ≡ None = search rules in
     sym (c.loop-n.invariant
@@ -17,7 +17,7 @@ returns-in_default c =
 pub returns-then-link-at : goal.returns-then-link-at
 returns-then-link-at c =
     let i = c.loop-n.n-index in
-    let ls = c.args.links.now in
+    let ls = c.args.links.now.bytes.now in
     let xs = c.args.numbers.now in
     let x = c.in-Some.link in
     let onward = chain_good ls x.to (drop (i + 1) xs) c.args.to in
@@ -29,7 +29,7 @@ returns-then-link-at c =
 pub loop-n-preserved : goal.loop-n-preserved
 loop-n-preserved c =
     let i = c.loop-n.n-index in
-    let ls = c.args.links.now in
+    let ls = c.args.links.now.bytes.now in
     let xs = c.args.numbers.now in
     let x = c.in-Some.link in
     let onward = chain_good ls x.to (drop (i + 1) xs) c.args.to in
@@ -40,7 +40,7 @@ loop-n-preserved c =
 
 pub returns : goal.returns
 returns c =
-    let ls = c.args.links.now in
+    let ls = c.args.links.now.bytes.now in
     let xs = c.args.numbers.now in
     let b = c.args.to in
     let e : chain_good ls c.loop-n.at (drop c.loop-n.n-index xs) b ≡ eqb c.loop-n.at b = at_drop_all (λ ys. chain_good ls c.loop-n.at ys b) xs c.loop-n.n-index (omega arith) in

@@ -9,5 +9,5 @@ returns c =
     let s = c.args.self.now in
     let r = c.in_ok-route.route in
     let f = c.in_ok-route.ensures in
-    let at = route_found s.nodes s.routes.now c.args.from c.args.to (Some (route_links r)) (omega arith) (omega arith) (λ e. omega arith) f.answer in
-    sym (ap route_length at ∙ ap Some (found_length s.nodes s.links.now s.routes.now r f.stands s.routed))
+    let at = route_found s.nodes s.routes.bytes.now c.args.from c.args.to (Some (route_links r)) (omega arith) (omega arith) (λ e. omega arith) f.answer in
+    sym (ap route_length at ∙ ap Some (found_length s.nodes s.links.bytes.now s.routes.bytes.now r f.stands s.routed))

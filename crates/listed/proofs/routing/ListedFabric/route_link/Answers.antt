@@ -10,20 +10,20 @@ returns-then-place-route c =
     let s = c.args.self.now in
     let r = c.in_ok-route.route in
     let f = c.in_ok-route.ensures in
-    let at = route_found s.nodes s.routes.now c.args.from c.args.to (Some (route_links r)) (omega arith) (omega arith) (λ e. omega arith) f.answer in
-    let long = found_length s.nodes s.links.now s.routes.now r f.stands s.routed in
+    let at = route_found s.nodes s.routes.bytes.now c.args.from c.args.to (Some (route_links r)) (omega arith) (omega arith) (λ e. omega arith) f.answer in
+    let long = found_length s.nodes s.links.bytes.now s.routes.bytes.now r f.stands s.routed in
     sym (ap (λ o. route_place o c.args.place) at ∙ slice_get_past (route_links r) c.args.place (omega (arith, long)))
 
 pub bounds-route-place : goal.bounds-route-place
 bounds-route-place c =
     let s = c.args.self.now in
     let f = c.in_ok-route.ensures in
-    omega (arith, found_short s.nodes s.links.now s.routes.now c.in_ok-route.route f.stands s.routed)
+    omega (arith, found_short s.nodes s.links.bytes.now s.routes.bytes.now c.in_ok-route.route f.stands s.routed)
 
 pub returns : goal.returns
 returns c =
     let s = c.args.self.now in
     let r = c.in_ok-route.route in
     let f = c.in_ok-route.ensures in
-    let at = route_found s.nodes s.routes.now c.args.from c.args.to (Some (route_links r)) (omega arith) (omega arith) (λ e. omega arith) f.answer in
-    sym (ap (λ o. route_place o c.args.place) at ∙ found_place s.nodes s.links.now s.routes.now r f.stands s.routed c.args.place (omega arith))
+    let at = route_found s.nodes s.routes.bytes.now c.args.from c.args.to (Some (route_links r)) (omega arith) (omega arith) (λ e. omega arith) f.answer in
+    sym (ap (λ o. route_place o c.args.place) at ∙ found_place s.nodes s.links.bytes.now s.routes.bytes.now r f.stands s.routed c.args.place (omega arith))
