@@ -32,22 +32,17 @@ fn judged_on<F: Fabric>(fabric: &F, part: &[u8]) -> Result<(usize, usize), FileF
 fn skip_sections(bytes: &[u8]) -> Result<&[u8], SetFault>
     ensures { MatchResult result (λ rest. mesh_sections bytes.now ≡ Ok rest.now) (λ e. mesh_sections bytes.now ≡ Err e) }
 {
-    let (_, rest) = match read_section::<Link>(bytes, 0) {
-        Ok(parts) => parts,
-        Err(fault) => return Err(SetFault::Links(fault)),
-    };
-    match read_section::<Route>(rest, 0) {
-        Ok((_, part)) => Ok(part),
-        Err(fault) => Err(SetFault::Routes(fault)),
-    }
+    let (_, rest) = read_section::<Link>(bytes, 0).map_err(SetFault::Links)?;
+    let (_, part) = read_section::<Route>(rest, 0).map_err(SetFault::Routes)?;
+    Ok(part)
 }
 
 fn judge_mesh(head: &Head, rest: &[u8]) -> Result<(usize, usize), FileFault>
     ensures { result ≡ mesh_verdict head.now rest.now }
 {
-    let Ok(mesh) = Mesh::new(head.x, head.y, head.delay) else {
-        return Err(FileFault::Fabric(SetFault::Head(HeadFault::Limits)));
-    };
+    let mesh = Mesh::new(head.x, head.y, head.delay).map_err(|_| SetFault::Head(
+        HeadFault::Limits,
+    ))?;
     let part = skip_sections(rest)?;
     judged_on(&mesh, part)
 }
@@ -67,15 +62,11 @@ fn judge_file(file: &[u8]) -> Result<(usize, usize), FileFault>
     if file.len() > LONGEST_FILE {
         return Err(FileFault::Extra);
     }
-    match read_head(file) {
-        Err(fault) => Err(FileFault::Fabric(SetFault::Head(fault))),
-        Ok((head, rest)) => {
-            if head.kind == 1 {
-                judge_mesh(&head, rest)
-            } else {
-                judge_listed(file)
-            }
-        }
+    let (head, rest) = read_head(file).map_err(SetFault::Head)?;
+    if head.kind == 1 {
+        judge_mesh(&head, rest)
+    } else {
+        judge_listed(file)
     }
 }
 
