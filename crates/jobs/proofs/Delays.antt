@@ -80,7 +80,7 @@ module _ (g : Setting) (js : Jobs) (s d : Task) (m : OpenMessage) where
   abbrev pub free : ℕ → Bool
   free v = clear (on_way g js (message_at m v) s d (g.network.route s.core d.core))
 
-  abbrev held : List HeldJob
+  abbrev pub held : List HeldJob
   held = map (held_message g js.tasks) js.messages
 
   pub no_route : g.network.route s.core d.core ≡ None → (v : ℕ) → free v ≡ false

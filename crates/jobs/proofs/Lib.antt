@@ -7,3 +7,4 @@ pub mod Searches
 pub mod Waits
 pub mod Delays
 pub mod Checked
+pub mod Chains

@@ -1,7 +1,8 @@
 -- The earliest of several lists of meetings.
-use Rattle.std.proofs.Common.{◌≡◌, ℕ, List, [], ◌∷◌, ◌++◌, Option, refl}
+use Rattle.std.proofs.Common.{◌≡◌, ℕ, List, [], ◌∷◌, ◌++◌, map, Option, sym, refl, ◌∙◌}
+use Rattle.std.specs.List.{fold}
 use Rattle.jobs.specs.declared.fault.Meeting.{Meeting}
-use Rattle.jobs.specs.Meetings.{sooner, earliest_from, meetings, all_meetings, HeldJob}
+use Rattle.jobs.specs.Meetings.{sooner, earliest_from, met, meetings, all_meetings, HeldJob}
 use Rattle.jobs.specs.Takes.{Take}
 
 -- the earliest of two lists is that of the second, with the earliest of the first in hand
@@ -14,7 +15,17 @@ pub all_more : (best : Option Meeting) (own : List Take) (h : HeldJob) (hs : Lis
     → earliest_from best (all_meetings own (h ∷ hs)) ≡ earliest_from (earliest_from best (meetings h.name own h.takes)) (all_meetings own hs)
 all_more best own h hs = earliest_append best (meetings h.name own h.takes) (all_meetings own hs)
 
--- what takes nothing meets nothing
-pub meetings_none : (name : ℕ) (own : List Take) → meetings name own [] ≡ []
-meetings_none name [] = refl
-meetings_none name (x ∷ xs) = meetings_none name xs
+-- the earliest of the meetings of each take of the offered job with those of a held one
+pub each_take : {X : Type 0} (take : X → Take) (best : Option Meeting) (name : ℕ) (xs : List X) (ys : List Take)
+    → fold (λ b x. earliest_from b (map (met name (take x)) ys)) best xs ≡ earliest_from best (meetings name (map take xs) ys)
+each_take take best name [] ys = refl
+each_take take best name (x ∷ xs) ys =
+    each_take take (earliest_from best (map (met name (take x)) ys)) name xs ys
+    ∙ sym (earliest_append best (map (met name (take x)) ys) (meetings name (map take xs) ys))
+
+-- and of those with each held job's
+pub each_job : {X : Type 0} (job : X → HeldJob) (best : Option Meeting) (own : List Take) (xs : List X)
+    → fold (λ b x. earliest_from b (meetings (job x).name own (job x).takes)) best xs ≡ earliest_from best (all_meetings own (map job xs))
+each_job job best own [] = refl
+each_job job best own (x ∷ xs) =
+    each_job job (earliest_from best (meetings (job x).name own (job x).takes)) own xs ∙ sym (all_more best own (job x) (map job xs))

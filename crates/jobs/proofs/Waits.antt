@@ -3,7 +3,6 @@ use Rattle.std.proofs.Common.{◌≡◌, ℕ, zero, suc, ◌+◌, ◌*◌, ◌�
 use Rattle.std.specs.List.{slice_get}
 use Rattle.std.specs.Option.{option_map}
 use Rattle.std.proofs.lemmas.Bool.{both_ways, cond_both, le-leb}
-use Rattle.fabric.specs.Network.{route_place}
 use Rattle.holds.specs.First.{IsFirst, first}
 use Rattle.holds.specs.Held.{latest, longest, span, spanned}
 use Rattle.holds.specs.Span.{Meet, Proper, Span, later}
@@ -13,20 +12,16 @@ use Rattle.holds.proofs.First.{first_is}
 use Rattle.holds.proofs.Limits.{proper}
 use Rattle.holds.proofs.Pair.{clear_apart, clear_or_meet}
 use Rattle.records.specs.Named.{named}
-use Rattle.records.specs.declared.record.Message.{Message}
-use Rattle.records.specs.declared.record.Task.{Task}
 use Rattle.jobs.specs.declared.fault.Meeting.{Meeting}
 use Rattle.jobs.specs.declared.open.OpenTask.{OpenTask}
 use Rattle.jobs.specs.declared.stay.Stay.{Stay}
-use Rattle.jobs.specs.declared.way.Way.{Way}
-use Rattle.jobs.specs.Jobs.{Setting, message_name, task_name}
-use Rattle.jobs.specs.Meetings.{HeldJob, all_meetings, at_instant, before, earliest_from, first_met, held_message, held_task, meetings, met, sooner}
+use Rattle.jobs.specs.Meetings.{HeldJob, all_meetings, at_instant, before, earliest_from, first_met, meetings, met, sooner}
 use Rattle.jobs.specs.Open.{task_at}
 use Rattle.jobs.specs.Placings.{clear}
-use Rattle.jobs.specs.Takes.{Place, Take, along, core, link, link_take, message_takes, on_route, same_place, task_take, task_takes}
-use Rattle.jobs.specs.Waits.{AmongTakes, StillMeets, StillMet, put_off}
-use Rattle.jobs.specs.Ways.{stay_take, way_takes}
-use Rattle.jobs.proofs.Limits.{at_place}
+use Rattle.jobs.specs.Takes.{Place, Take, along, core, link_take, same_place, task_takes}
+use Rattle.jobs.specs.Waits.{Among, StillMeets, StillMet, put_off}
+use Rattle.jobs.specs.Boards.{job_of}
+use Rattle.jobs.specs.Ways.{stay_take}
 use Rattle.jobs.proofs.Meets.{earliest_append}
 use Rattle.jobs.proofs.Searches.{FailsFrom}
 
@@ -123,6 +118,10 @@ still_met xs hs k i j h x y None eh ex ey still =
 still_met xs hs k i j h x y (Some w) eh ex ey still =
     λ n l. met_all (put_off n x) y None (map (put_off n) xs) hs k i j h eh (nth_map (put_off n) xs i x ex) ey (still h.name n l)
 
+-- the same of takes that are told otherwise
+pub still_as : {xs ys : List Take} (hs : List HeldJob) (wait : Option ℕ) → xs ≡ ys → StillMet xs hs wait → StillMet ys hs wait
+still_as hs wait e still = subst (λ ts. StillMet ts hs wait) e still
+
 -- within the limits a later start is the hold put off
 pub spanned_later : (s p w n : ℕ) → s + n ≤ latest → spanned (s + n) p w ≡ option_map (later n) (spanned s p w)
 spanned_later s p w n l =
@@ -161,12 +160,14 @@ stays_meet p q one other own held wait eo eh same least =
     (subst (λ (o : Option Hold). StillMeets (record { place = p; hold = Some (span own) }) (record { place = q; hold = option_map span o }) wait) (sym eh)
     (still_meets p q (span own) (span held) wait same (proper own) (proper held) least))
 
--- a task still meets the held one of a name
-pub task_meets : (held : List Task) (t u : Task) (name : ℕ) (x y : Take) (wait : Option ℕ) → Some u ≡ named task_name name held
-    → x ≡ task_take t → y ≡ task_take u → StillMeets x y wait → StillMet (task_takes t) (map held_task held) wait
-task_meets held t u name x y wait e ex ey still =
-    let at = named_at task_name name held u e in
-    still_met (task_takes t) (map held_task held) at.0 0 0 (held_task u) x y wait (nth_map held_task held at.0 u at.1) (ap Some (sym ex)) (ap Some (sym ey)) still
+-- a job still meets the held one of a name, by a stay of each
+pub job_meets : {X : Type 0} (label : X → ℕ) (takes : X → List Take) (held : List X) (own theirs : List Take) (job : X) (name : ℕ) (one other : Stay) (wait : Option ℕ)
+    → Some job ≡ named label name held → theirs ≡ takes job → Among own (Some one) → Among theirs (Some other)
+    → StillMeets (stay_take one) (stay_take other) wait → StillMet own (map (job_of label takes) held) wait
+job_meets label takes held own theirs job name one other wait e is (i, eo) (j, eh) still =
+    let at = named_at label name held job e in
+    still_met own (map (job_of label takes) held) at.0 i j (job_of label takes job) (stay_take one) (stay_take other) wait
+    (nth_map (job_of label takes) held at.0 job at.1) eo (subst (λ xs. slice_get xs j ≡ Some (stay_take other)) is eh) still
 
 -- a later phase is the task put off
 task_later : (t : OpenTask) (v n : ℕ) → v + n ≤ latest → task_takes (task_at t (v + n)) ≡ map (put_off n) (task_takes (task_at t v))
@@ -177,25 +178,6 @@ pub phase_fails : (t : OpenTask) (hs : List HeldJob) (v : ℕ) (wait : Option �
     → FailsFrom (λ p. clear (first_met (task_takes (task_at t p)) hs)) v wait
 phase_fails t hs v None still = λ n l. subst (λ ts. clear (first_met ts hs) ≡ false) (sym (task_later t v n (omega arith))) (still n)
 phase_fails t hs v (Some w) still = λ n k l. subst (λ ts. clear (first_met ts hs) ≡ false) (sym (task_later t v n (omega arith))) (still n k)
-
--- the stay at a place of a way is what packets take there
-placed : (o : Option (List ℕ)) (hop s p w i l : ℕ) → Some l ≡ route_place o i → slice_get (on_route hop o s p w) i ≡ Some (link_take l (spanned (s + i * hop) p w))
-placed None hop s p w i l e = let z : ◌≡◌ {A = ℕ} 0 1 = cc in absurd (omega arith)
-placed (Some r) hop s p w i l e = at_place hop r s p w i l (sym e)
-
-pub stay_placed : (g : Setting) (w : Way) (i : ℕ) (s : Stay) → Some s.place ≡ route_place (g.network.route w.from w.to) i
-    → option_map span s.hold ≡ spanned (w.start + i * w.hop) w.period w.width → slice_get (way_takes g w) i ≡ Some (stay_take link s)
-stay_placed g w i s at is =
-    placed (g.network.route w.from w.to) w.hop w.start w.period w.width i s.place at ∙ ap (λ h. Some (link_take s.place h)) (sym is)
-
--- packets still meet those of the held message of a name
-pub packet_meets : (g : Setting) (ts : List Task) (ms : List Message) (m : Message) (name : ℕ) (own way : Way) (one other : Stay) (wait : Option ℕ)
-    → Some m ≡ named message_name name ms → way_takes g way ≡ message_takes g ts m → AmongTakes g own (Some one) → AmongTakes g way (Some other)
-    → StillMeets (stay_take link one) (stay_take link other) wait → StillMet (way_takes g own) (map (held_message g ts) ms) wait
-packet_meets g ts ms m name own way one other wait e takes (i, eo) (j, eh) still =
-    let at = named_at message_name name ms m e in
-    still_met (way_takes g own) (map (held_message g ts) ms) at.0 i j (held_message g ts m) (stay_take link one) (stay_take link other) wait
-    (nth_map (held_message g ts) ms at.0 m at.1) eo (subst (λ xs. slice_get xs j ≡ Some (stay_take link other)) takes eh) still
 
 -- later packets take the same links later
 pub along_later : (hop : ℕ) (ls : List ℕ) (s p w n : ℕ) → s + n + length ls * hop ≤ latest → along hop ls (s + n) p w ≡ map (put_off n) (along hop ls s p w)

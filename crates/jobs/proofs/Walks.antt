@@ -1,20 +1,17 @@
 -- What packets have yet to take on their way, from a place of the route on.
-use Rattle.std.proofs.Common.{◌≡◌, ℕ, ◌+◌, ◌*◌, ◌≤◌, List, [], ◌∷◌, map, Some, None, Option, sym, refl, ap, ◌∙◌, add-mul, arith}
+use Rattle.std.proofs.Common.{◌≡◌, ℕ, ◌+◌, ◌*◌, ◌≤◌, List, [], ◌∷◌, ◌++◌, Some, None, Option, sym, refl, ap, ◌∙◌, add-mul, append-nil, append_assoc, arith}
 use Rattle.std.specs.Option.{option_map}
 use Rattle.std.proofs.lemmas.List.{at_drop_all}
-use Rattle.holds.specs.Held.{span, spanned}
+use Rattle.holds.specs.Held.{span}
 use Rattle.fabric.specs.Network.{Lawful, route_place}
 use Rattle.fabric.proofs.Laws.{rest, rest_more, rest_past, no_place}
 use Rattle.records.specs.declared.record.Task.{Task}
 use Rattle.records.specs.declared.record.Message.{Message}
-use Rattle.jobs.specs.declared.fault.Meeting.{Meeting}
 use Rattle.jobs.specs.declared.stay.Stay.{Stay}
 use Rattle.jobs.specs.declared.way.Way.{Way}
 use Rattle.jobs.specs.Jobs.{Setting}
-use Rattle.jobs.specs.Meetings.{earliest_from, meetings, met, sooner}
-use Rattle.jobs.specs.Takes.{Take, link, link_take, along, on_route, packet_takes}
-use Rattle.jobs.specs.Ways.{stay_take, way_takes, IsWay}
-use Rattle.jobs.proofs.Meets.{earliest_append}
+use Rattle.jobs.specs.Takes.{Take, link_take, along, on_route, packet_takes}
+use Rattle.jobs.specs.Ways.{StaysOn, stay_take, way_takes, IsWay}
 
 abbrev pub takes_from : Setting → Way → ℕ → List Take
 takes_from g w i = along w.hop (rest (g.network.route w.from w.to) i) (w.start + i * w.hop) w.period w.width
@@ -28,14 +25,13 @@ pub way_first : (g : Setting) (w : Way) → way_takes g w ≡ takes_from g w 0
 way_first g w = from_first (g.network.route w.from w.to) w.hop w.start w.period w.width
 
 -- the stay at a place comes before those at the next places
-pub takes_more : (g : Setting) (w : Way) (i : ℕ) (s : Stay) → Some s.place ≡ route_place (g.network.route w.from w.to) i
-    → option_map span s.hold ≡ spanned (w.start + i * w.hop) w.period w.width
-    → takes_from g w i ≡ stay_take link s ∷ takes_from g w (i + 1)
-takes_more g w i s at is =
+pub takes_more : (g : Setting) (w : Way) (i : ℕ) (s : Stay) → StaysOn g.network w i s → takes_from g w i ≡ stay_take s ∷ takes_from g w (i + 1)
+takes_more g w i s is =
     let later : w.start + i * w.hop + w.hop ≡ w.start + (i + 1) * w.hop = omega (arith, add-mul i 1 w.hop) in
-    ap (λ ls. along w.hop ls (w.start + i * w.hop) w.period w.width) (rest_more (g.network.route w.from w.to) i s.place at)
-    ∙ ap (λ h. link_take s.place h ∷ along w.hop (rest (g.network.route w.from w.to) (i + 1)) (w.start + i * w.hop + w.hop) w.period w.width) (sym is)
-    ∙ ap (λ (n : ℕ). stay_take link s ∷ along w.hop (rest (g.network.route w.from w.to) (i + 1)) n w.period w.width) later
+    ap (λ ls. along w.hop ls (w.start + i * w.hop) w.period w.width) (rest_more (g.network.route w.from w.to) i is.number is.at)
+    ∙ ap (λ h. link_take is.number h ∷ along w.hop (rest (g.network.route w.from w.to) (i + 1)) (w.start + i * w.hop + w.hop) w.period w.width) (sym is.hold)
+    ∙ ap (λ p. record { place = p; hold = option_map span s.hold } ∷ along w.hop (rest (g.network.route w.from w.to) (i + 1)) (w.start + i * w.hop + w.hop) w.period w.width) (sym is.on)
+    ∙ ap (λ (n : ℕ). stay_take s ∷ along w.hop (rest (g.network.route w.from w.to) (i + 1)) n w.period w.width) later
 
 ended : (o : Option (List ℕ)) (i : ℕ) → None ≡ route_place o i → (k : ℕ) → i ≤ k → rest o k ≡ []
 ended None i e k h = refl
@@ -58,36 +54,14 @@ way_is g s d m w h =
     ∙ ap (λ n. on_route g.network.delay (g.network.route s.core d.core) (s.phase + s.width + m.delay) n w.width) h.period
     ∙ ap (λ n. on_route g.network.delay (g.network.route s.core d.core) (s.phase + s.width + m.delay) s.period n) h.width
 
--- ---- the earliest meeting so far, at the next place of a way
+-- ---- the stays so far, at the next place of a way
 
-module _ (g : Setting) (w : Way) (i : ℕ) (name : ℕ) (best next all : Option Meeting) where
-  -- one take of the offered job against the stay of the held one at a place
-  pub near_more : (x : Take) (s : Stay) → Some s.place ≡ route_place (g.network.route w.from w.to) i
-      → option_map span s.hold ≡ spanned (w.start + i * w.hop) w.period w.width
-      → next ≡ sooner best (met name x (stay_take link s))
-      → earliest_from best (map (met name x) (takes_from g w i)) ≡ all → earliest_from next (map (met name x) (takes_from g w (i + 1))) ≡ all
-  near_more x s at is e inv =
-      ap (λ b. earliest_from b (map (met name x) (takes_from g w (i + 1)))) e
-      ∙ sym (ap (λ ts. earliest_from best (map (met name x) ts)) (takes_more g w i s at is)) ∙ inv
+module _ (g : Setting) (w : Way) (i : ℕ) (front all : List Take) where
+  pub stays_more : (s : Stay) → StaysOn g.network w i s → front ++ takes_from g w i ≡ all → (front ++ (stay_take s ∷ [])) ++ takes_from g w (i + 1) ≡ all
+  stays_more s is inv = append_assoc front (stay_take s ∷ []) (takes_from g w (i + 1)) ∙ ap (λ ts. front ++ ts) (sym (takes_more g w i s is)) ∙ inv
 
-  pub near_none : (x : Take) → None ≡ route_place (g.network.route w.from w.to) i → next ≡ best
-      → earliest_from best (map (met name x) (takes_from g w i)) ≡ all → earliest_from next (map (met name x) (takes_from g w (i + 1))) ≡ all
-  near_none x gone e inv =
-      ap (λ b. earliest_from b (map (met name x) (takes_from g w (i + 1)))) e
-      ∙ ap (λ ts. earliest_from best (map (met name x) ts)) (takes_none g w i gone (i + 1) (omega arith) ∙ sym (takes_none g w i gone i (omega arith))) ∙ inv
+  pub stays_none : None ≡ route_place (g.network.route w.from w.to) i → front ++ takes_from g w i ≡ all → front ++ takes_from g w (i + 1) ≡ all
+  stays_none gone inv = ap (λ ts. front ++ ts) (takes_none g w i gone (i + 1) (omega arith) ∙ sym (takes_none g w i gone i (omega arith))) ∙ inv
 
-  -- the stay of the offered job at a place against all that a held one takes
-  pub each_more : (ys : List Take) (s : Stay) → Some s.place ≡ route_place (g.network.route w.from w.to) i
-      → option_map span s.hold ≡ spanned (w.start + i * w.hop) w.period w.width
-      → next ≡ earliest_from best (map (met name (stay_take link s)) ys)
-      → earliest_from best (meetings name (takes_from g w i) ys) ≡ all → earliest_from next (meetings name (takes_from g w (i + 1)) ys) ≡ all
-  each_more ys s at is e inv =
-      ap (λ b. earliest_from b (meetings name (takes_from g w (i + 1)) ys)) e
-      ∙ sym (earliest_append best (map (met name (stay_take link s)) ys) (meetings name (takes_from g w (i + 1)) ys))
-      ∙ sym (ap (λ ts. earliest_from best (meetings name ts ys)) (takes_more g w i s at is)) ∙ inv
-
-  pub each_none : (ys : List Take) → None ≡ route_place (g.network.route w.from w.to) i → next ≡ best
-      → earliest_from best (meetings name (takes_from g w i) ys) ≡ all → earliest_from next (meetings name (takes_from g w (i + 1)) ys) ≡ all
-  each_none ys gone e inv =
-      ap (λ b. earliest_from b (meetings name (takes_from g w (i + 1)) ys)) e
-      ∙ ap (λ ts. earliest_from best (meetings name ts ys)) (takes_none g w i gone (i + 1) (omega arith) ∙ sym (takes_none g w i gone i (omega arith))) ∙ inv
+  pub stays_end : takes_from g w i ≡ [] → front ++ takes_from g w i ≡ all → front ≡ all
+  stays_end gone inv = sym (append-nil front) ∙ ap (λ ts. front ++ ts) (sym gone) ∙ inv

@@ -1,10 +1,11 @@
 -- Droppings: the answer, and what is held after. Assumes nothing.
-use Rattle.std.specs.Prelude.{ℕ, Bool, false, cond, ◌||◌, List, [], ◌∷◌, is_some, Ok, Err, Result, ◌==◌}
+use Rattle.std.specs.Prelude.{ℕ, Bool, cond, ◌||◌, List, is_some, Ok, Err, Result, ◌==◌}
 use Rattle.records.specs.Named.{spot}
 use Rattle.records.specs.declared.record.Message.{Message}
 use Rattle.jobs.specs.declared.fault.DropFault.{DropFault}
 use Rattle.jobs.specs.declared.fault.DropFault.TheVariants.{Unknown, InUse}
 use Rattle.jobs.specs.Jobs.{Jobs, task_name, message_name, without_task, without_message}
+use Rattle.std.specs.List.{list_any}
 
 -- a message has the task of this name as source or destination
 abbrev pub names_task : ℕ → Message → Bool
@@ -12,8 +13,7 @@ names_task n m = m.source == n || m.destination == n
 
 -- some message has
 abbrev pub in_use : ℕ → List Message → Bool
-in_use n [] = false
-in_use n (m ∷ ms) = names_task n m || in_use n ms
+in_use n ms = list_any (names_task n) ms
 
 abbrev pub drop_task : Jobs → ℕ → Result (Unit {0}) DropFault × Jobs
 drop_task js n =

@@ -22,10 +22,14 @@ abbrev pub or_else : {X : Type 0} → Option X → Option X → Option X
 or_else None y = y
 or_else (Some x) y = Some x
 
+-- the first answer that f gives of a list
+abbrev pub first_some : {X Y : Type 0} → (X → Option Y) → List X → Option Y
+first_some f [] = None
+first_some f (x ∷ xs) = or_else (f x) (first_some f xs)
+
 -- the first run of some takes
 abbrev pub first_run : Place → ℕ → List Take → Option ℕ
-first_run p n [] = None
-first_run p n (t ∷ ts) = or_else (run_on p n t) (first_run p n ts)
+first_run p n ts = first_some (run_on p n) ts
 
 -- a job's name and run
 abbrev pub with_name : ℕ → Option ℕ → Option (ℕ × ℕ)
@@ -34,8 +38,7 @@ with_name name (Some k) = Some (name, k)
 
 -- the first job that has the place at the instant, and its run there
 abbrev pub holder_among : Place → ℕ → List HeldJob → Option (ℕ × ℕ)
-holder_among p n [] = None
-holder_among p n (j ∷ js) = or_else (with_name j.name (first_run p n j.takes)) (holder_among p n js)
+holder_among p n js = first_some (λ j. with_name j.name (first_run p n j.takes)) js
 
 -- a number that is not below its count is no place
 abbrev pub no_place : PlaceFault

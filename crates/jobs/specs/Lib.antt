@@ -14,3 +14,4 @@ pub mod Slacks
 pub mod Stand
 pub mod Holding
 pub mod Waits
+pub mod Boards

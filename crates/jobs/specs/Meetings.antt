@@ -8,6 +8,7 @@ use Rattle.records.specs.declared.record.Message.{Message}
 use Rattle.jobs.specs.declared.fault.Meeting.{Meeting}
 use Rattle.jobs.specs.Jobs.{Setting}
 use Rattle.jobs.specs.Takes.{Place, number, same_place, Take, task_takes, message_takes}
+use Rattle.std.specs.List.{fold}
 
 -- the first instant of all time that lies in both holds
 abbrev pub shared : Option Span → Option Span → Option ℕ
@@ -35,8 +36,7 @@ sooner (Some a) (Some b) = cond (before b a) (Some b) (Some a)
 
 -- the earliest of a list, or what was in hand before it
 abbrev pub earliest_from : Option Meeting → List (Option Meeting) → Option Meeting
-earliest_from best [] = best
-earliest_from best (x ∷ xs) = earliest_from (sooner best x) xs
+earliest_from best xs = fold sooner best xs
 
 -- each take of the offered job against each of a held one
 abbrev pub meetings : ℕ → List Take → List Take → List (Option Meeting)

@@ -5,12 +5,10 @@ use Rattle.holds.specs.Held.{spanned}
 use Rattle.records.specs.declared.record.Task.{Task}
 use Rattle.records.specs.declared.record.Message.{Message}
 use Rattle.jobs.specs.Jobs.{Setting, task_named}
+pub use Rattle.jobs.specs.declared.place.Place.{Place}
+pub use Rattle.jobs.specs.declared.place.Place.TheVariants.{Core as core, Link as link}
 
--- a core or a link, by its number
-pub data Place : Type 0 where
-  core : ℕ → Place
-  link : ℕ → Place
-
+-- the number of a core or a link
 abbrev pub number : Place → ℕ
 number (core n) = n
 number (link n) = n

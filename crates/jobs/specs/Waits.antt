@@ -4,12 +4,10 @@ use Rattle.std.specs.Option.{option_map}
 use Rattle.std.specs.List.{slice_get}
 use Rattle.holds.specs.Span.{later}
 use Rattle.jobs.specs.declared.stay.Stay.{Stay}
-use Rattle.jobs.specs.declared.way.Way.{Way}
-use Rattle.jobs.specs.Jobs.{Setting}
 use Rattle.jobs.specs.Meetings.{HeldJob, first_met, met}
 use Rattle.jobs.specs.Placings.{clear}
-use Rattle.jobs.specs.Takes.{Take, link}
-use Rattle.jobs.specs.Ways.{stay_take, way_takes}
+use Rattle.jobs.specs.Takes.{Take}
+use Rattle.jobs.specs.Ways.{stay_take}
 
 -- a take put off by n instants
 abbrev pub put_off : ℕ → Take → Take
@@ -28,7 +26,7 @@ StillMeets x y wait = (name : ℕ) → Fails (λ n. clear (met name (put_off n x
 abbrev pub StillMet : List Take → List HeldJob → Option ℕ → Type 0
 StillMet own held wait = Fails (λ n. clear (first_met (map (put_off n) own) held)) wait
 
--- a stay, where there is one, is among what packets take on their way
-abbrev pub AmongTakes : Setting → Way → Option Stay → Type 0
-AmongTakes g w None = Unit {0}
-AmongTakes g w (Some s) = (i : ℕ) × (slice_get (way_takes g w) i ≡ Some (stay_take link s))
+-- a stay, where there is one, is among some takes
+abbrev pub Among : List Take → Option Stay → Type 0
+Among ts None = Unit {0}
+Among ts (Some s) = (i : ℕ) × (slice_get ts i ≡ Some (stay_take s))

@@ -1,19 +1,26 @@
 -- What stays and ways of the code stand for. Assumes nothing.
-use Rattle.std.specs.Prelude.{◌≡◌, ℕ, List, [], ℤ, Some, None, Option}
+use Rattle.std.specs.Prelude.{◌≡◌, ℕ, ◌+◌, ◌*◌, List, [], ℤ, Some, None, Option}
 use Rattle.std.specs.Option.{option_map}
-use Rattle.fabric.specs.Network.{route_length}
+use Rattle.fabric.specs.Network.{Network, route_length, route_place}
 use Rattle.records.specs.declared.record.Task.{Task}
 use Rattle.records.specs.declared.record.Message.{Message}
 use Rattle.jobs.specs.declared.stay.Stay.{Stay}
 use Rattle.jobs.specs.declared.way.Way.{Way}
-use Rattle.holds.specs.Held.{span}
+use Rattle.holds.specs.Held.{span, spanned}
 use Rattle.jobs.specs.Jobs.{Setting}
 use Rattle.jobs.specs.Reading.{slack_over}
-use Rattle.jobs.specs.Takes.{Place, Take, leaves, on_route, task_hold}
+use Rattle.jobs.specs.Takes.{Take, leaves, link, on_route, task_hold}
 
--- a stay on a kind of place
-abbrev pub stay_take : (ℕ → Place) → Stay → Take
-stay_take kind s = record { place = kind s.place; hold = option_map span s.hold }
+-- what a stay takes
+abbrev pub stay_take : Stay → Take
+stay_take s = record { place = s.place; hold = option_map span s.hold }
+
+-- a stay is that of packets on the link at a place of their way
+pub record StaysOn (net : Network) (w : Way) (i : ℕ) (s : Stay) : Type 0 where
+  pub number : ℕ
+  pub on : s.place ≡ link number
+  pub at : Some number ≡ route_place (net.route w.from w.to) i
+  pub hold : option_map span s.hold ≡ spanned (w.start + i * w.hop) w.period w.width
 
 -- what packets on a way take
 abbrev pub way_takes : Setting → Way → List Take

@@ -1,88 +1,75 @@
 // Who holds a core or a link at an instant.
-ghost use Rattle.holds.specs.Held.{span};
-ghost use Rattle.jobs.specs.Holding.{first_run, holder_among, run_of, run_on};
-ghost use Rattle.jobs.specs.Jobs.{over};
+ghost use Rattle.jobs.specs.Boards.{job_of, setting_of};
+ghost use Rattle.jobs.specs.Holding.{first_run, holder_among, run_of, run_on, with_name};
 ghost use Rattle.jobs.specs.Meetings.{held_message, held_task};
-ghost use Rattle.jobs.specs.Takes.{core, link, message_takes};
-ghost use Rattle.jobs.specs.Ways.{stay_take, way_takes};
-ghost use Rattle.std.specs.Option.{option_map};
+ghost use Rattle.jobs.specs.Takes.{core, link};
+ghost use Rattle.jobs.specs.Ways.{stay_take};
 ghost use Rattle.std.specs.Prelude.{◌≡◌, map};
 
-use crate::message::{stay_on, way_of};
+use crate::board::Board;
+use crate::job::Job;
+use crate::place::Place;
 use crate::stay::Stay;
-use crate::task::stay_of;
-use crate::way::Way;
 use fabric::Fabric;
 use holds::run_at;
-use records::record::{Message, Task};
 
 // The run of a stay that has a place at an instant.
-fn run_there(place: u16, instant: u64, stay: &Stay) -> Option<u64>
-    ensures cores { result ≡ run_on (core place) instant (stay_take core stay.now) }
-    ensures links { result ≡ run_on (link place) instant (stay_take link stay.now) }
+fn run_there(place: Place, instant: u64, stay: &Stay) -> Option<u64>
+    ensures { result ≡ run_on place instant (stay_take stay.now) }
 {
-    if stay.place != place {
+    if !stay.place.is(place) {
         return None;
     }
     run_at(stay.hold?, instant)
 }
 
-// The held task that has a core at an instant, by its name, and its run there.
-pub fn core_holder(held: &[Task], place: u16, instant: u64) -> Option<(u16, u64)>
-    ensures { result ≡ holder_among (core place) instant (map held_task held.now) }
+// The first run of some stays that has it.
+fn run_among(place: Place, instant: u64, stays: &[Stay]) -> Option<u64>
+    ensures { result ≡ first_run place instant (map stay_take stays.now) }
 {
-    for t in held {
-        if let Some(run) = run_there(place, instant, &stay_of(t)) {
-            return Some((t.name, run));
-        }
-    }
-    None
+    stays
+        .iter()
+        .find_map(|stay| run_there(place, instant, stay))
 }
 
-// The packet on a way that has a link at an instant, by its number.
-fn packet_there<F: Fabric>(fabric: &F, way: &Way, number: u16, instant: u64) -> Option<u64>
-    ensures { result ≡ first_run (link number) instant (way_takes (over F.Fabric.meaning fabric.now) way.now) }
-{
-    for place in 0..F::reach() {
-        if let Some(stay) = stay_on(fabric, way, place) {
-            if let Some(run) = run_there(number, instant, &stay) {
-                return Some(run);
-            }
-        }
-    }
-    None
-}
-
-// The held message that has a link at an instant, by its name, and its packet there.
-pub fn link_holder<F: Fabric>(
-    fabric: &F,
-    tasks: &[Task],
-    held: &[Message],
-    number: u16,
+// The name of a held job, and its run that has a place at an instant.
+fn held_run<F: Fabric, J: Job>(
+    board: &Board<'_, F>,
+    job: &J,
+    place: Place,
     instant: u64,
 ) -> Option<(u16, u64)>
-    ensures { result ≡ holder_among (link number) instant (map (held_message (over F.Fabric.meaning fabric.now) tasks.now) held.now) }
+    ensures { result ≡ with_name (J.Named.label job.now) (first_run place instant (J.Job.takes (setting_of F.Fabric.meaning board.now) board.now.tasks.now job.now)) }
 {
-    for m in held {
-        if let Some(run) = packet_of(fabric, tasks, m, number, instant) {
-            return Some((m.name, run));
-        }
-    }
-    None
+    let run = run_among(place, instant, job.stays(board).as_slice())?;
+    Some((job.name(), run))
 }
 
-// The packet of a held message that has a link at an instant, by its number.
-fn packet_of<F: Fabric>(
-    fabric: &F,
-    tasks: &[Task],
-    m: &Message,
-    number: u16,
+// The first of the held jobs that has a place at an instant, by its name, and its run there.
+fn holder<F: Fabric, J: Job>(
+    board: &Board<'_, F>,
+    held: &[J],
+    place: Place,
     instant: u64,
-) -> Option<u64>
-    ensures { result ≡ first_run (link number) instant (message_takes (over F.Fabric.meaning fabric.now) tasks.now m.now) }
+) -> Option<(u16, u64)>
+    ensures { result ≡ holder_among place instant (map (job_of J.Named.label (J.Job.takes (setting_of F.Fabric.meaning board.now) board.now.tasks.now)) held.now) }
 {
-    match way_of(fabric, tasks, m) {
-        Some(way) => packet_there(fabric, &way, number, instant),
-        None => None,
+    held.iter()
+        .find_map(|job| held_run(board, job, place, instant))
+}
+
+impl<'a, F: Fabric> Board<'a, F> {
+    // The held task that has a core at an instant, by its name, and its run there.
+    pub fn core_holder(&self, number: u16, instant: u64) -> Option<(u16, u64)>
+        ensures { result ≡ holder_among (core number) instant (map held_task self.now.tasks.now) }
+    {
+        holder(self, self.tasks, Place::Core(number), instant)
+    }
+
+    // The held message that has a link at an instant, by its name, and its packet there.
+    pub fn link_holder(&self, number: u16, instant: u64) -> Option<(u16, u64)>
+        ensures { result ≡ holder_among (link number) instant (map (held_message (setting_of F.Fabric.meaning self.now) self.now.tasks.now) self.now.messages.now) }
+    {
+        holder(self, self.messages, Place::Link(number), instant)
     }
 }

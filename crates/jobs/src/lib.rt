@@ -4,13 +4,17 @@
 ghost use Rattle.jobs.specs.Stand.{PacketHolds, SlackFormula, TaskHolds};
 ghost use Rattle.std.specs.Prelude.{◌≡◌};
 
+pub mod board;
 pub mod fault;
-pub mod holder;
-pub mod meeting;
+mod holder;
+mod job;
+mod meeting;
 pub mod message;
 pub mod open;
-pub mod placing;
-pub mod stay;
+mod packets;
+mod place;
+mod placing;
+mod stay;
 pub mod task;
 pub mod way;
 

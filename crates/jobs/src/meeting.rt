@@ -1,13 +1,16 @@
 // The first meeting of an offered job with those held.
 ghost use Rattle.holds.specs.Held.{span};
-ghost use Rattle.jobs.specs.Meetings.{before, met, shared, sooner};
-ghost use Rattle.jobs.specs.Takes.{core, link};
+ghost use Rattle.jobs.specs.Boards.{job_of, setting_of};
+ghost use Rattle.jobs.specs.Meetings.{before, earliest_from, first_met, meetings, met, shared, sooner};
 ghost use Rattle.jobs.specs.Ways.{stay_take};
 ghost use Rattle.std.specs.Option.{option_map};
-ghost use Rattle.std.specs.Prelude.{◌≡◌};
+ghost use Rattle.std.specs.Prelude.{◌≡◌, map};
 
+use crate::board::Board;
 use crate::fault::Meeting;
+use crate::job::Job;
 use crate::stay::Stay;
+use fabric::Fabric;
 use holds::{Hold, first_meeting};
 
 // The first instant that lies in both.
@@ -19,17 +22,16 @@ fn shared_instant(one: Option<Hold>, other: Option<Hold>) -> Option<u64>
 
 // Where an offered job's stay meets that of the held job of this name.
 pub(crate) fn meeting_at(name: u16, own: &Stay, held: &Stay) -> Option<Meeting>
-    ensures cores { result ≡ met name (stay_take core own.now) (stay_take core held.now) }
-    ensures links { result ≡ met name (stay_take link own.now) (stay_take link held.now) }
+    ensures { result ≡ met name (stay_take own.now) (stay_take held.now) }
 {
-    if own.place != held.place {
+    if !own.place.is(held.place) {
         return None;
     }
     let instant = shared_instant(own.hold, held.hold)?;
     Some(Meeting {
         instant,
         held: name,
-        place: own.place,
+        place: own.place.number(),
     })
 }
 
@@ -43,7 +45,7 @@ fn comes_before(one: &Meeting, other: &Meeting) -> bool
 }
 
 // The earlier of two meetings.
-pub(crate) fn earlier(one: Option<Meeting>, other: Option<Meeting>) -> Option<Meeting>
+fn earlier(one: Option<Meeting>, other: Option<Meeting>) -> Option<Meeting>
     ensures { result ≡ sooner one other }
 {
     match (one, other) {
@@ -57,4 +59,45 @@ pub(crate) fn earlier(one: Option<Meeting>, other: Option<Meeting>) -> Option<Me
         (Some(a), None) => Some(a),
         (None, _) => other,
     }
+}
+
+// The earlier of `best` and the meetings of one stay with those of a held job.
+fn nearest_to(best: Option<Meeting>, own: &Stay, name: u16, held: &[Stay]) -> Option<Meeting>
+    ensures { result ≡ earliest_from best (map (met name (stay_take own.now)) (map stay_take held.now)) }
+{
+    held.iter().fold(best, |best, stay| {
+        earlier(best, meeting_at(name, own, stay))
+    })
+}
+
+// The earlier of `best` and the meetings of an offered job's stays with those of a held one.
+fn nearest(best: Option<Meeting>, own: &[Stay], name: u16, held: &[Stay]) -> Option<Meeting>
+    ensures { result ≡ earliest_from best (meetings name (map stay_take own.now) (map stay_take held.now)) }
+{
+    own.iter()
+        .fold(best, |best, stay| nearest_to(best, stay, name, held))
+}
+
+// The earlier of `best` and the meetings of an offered job's stays with those of one held job.
+fn nearest_job<F: Fabric, J: Job>(
+    board: &Board<'_, F>,
+    best: Option<Meeting>,
+    own: &[Stay],
+    job: &J,
+) -> Option<Meeting>
+    ensures { result ≡ earliest_from best (meetings (J.Named.label job.now) (map stay_take own.now) (J.Job.takes (setting_of F.Fabric.meaning board.now) board.now.tasks.now job.now)) }
+{
+    nearest(best, own, job.name(), job.stays(board).as_slice())
+}
+
+// The first meeting of an offered job's stays with those of the held jobs.
+pub(crate) fn first_among<F: Fabric, J: Job>(
+    board: &Board<'_, F>,
+    held: &[J],
+    own: &[Stay],
+) -> Option<Meeting>
+    ensures { result ≡ first_met (map stay_take own.now) (map (job_of J.Named.label (J.Job.takes (setting_of F.Fabric.meaning board.now) board.now.tasks.now)) held.now) }
+{
+    held.iter()
+        .fold(None, |best, job| nearest_job(board, best, own, job))
 }

@@ -3,131 +3,106 @@
 // From a value at which the job meets a held one, the search goes on at the first value that is clear of that one.
 ghost use Rattle.std.specs.Prelude.{◌≡◌, ◌+◌, ◌-◌, map};
 ghost use Rattle.holds.specs.Search.{first_from};
-ghost use Rattle.jobs.specs.Jobs.{over};
-ghost use Rattle.jobs.specs.Meetings.{first_met, held_message, held_task};
+ghost use Rattle.jobs.specs.Boards.{held_on, job_of, setting_of};
+ghost use Rattle.jobs.specs.Meetings.{first_met, held_task};
 ghost use Rattle.jobs.specs.Open.{message_at, task_at};
 ghost use Rattle.jobs.specs.Placings.{clear, on_way};
-ghost use Rattle.jobs.specs.Takes.{core, link, task_takes};
-ghost use Rattle.jobs.specs.Waits.{AmongTakes, StillMeets, StillMet};
-ghost use Rattle.jobs.specs.Ways.{stay_take, way_takes};
+ghost use Rattle.jobs.specs.Takes.{task_takes};
+ghost use Rattle.jobs.specs.Waits.{Among, StillMeets, StillMet};
+ghost use Rattle.jobs.specs.Ways.{stay_take};
 
+use crate::board::{Board, Ends};
 use crate::fault::Meeting;
-use crate::message::{first_packet_meeting, late_by, stay_on, way_between, way_of};
+use crate::job::Job;
+use crate::message::late_by;
 use crate::open::{OpenMessage, OpenTask};
 use crate::stay::Stay;
-use crate::task::{first_task_meeting, stay_of};
+use crate::task::stay_of;
 use crate::way::Way;
 use fabric::Fabric;
 use holds::least_wait;
 use records::named::pick;
-use records::record::{Message, Task};
 
 // By how many instants a stay must be put off to be clear of a held one, none where it never is.
 fn stay_wait(own: &Stay, held: &Stay) -> Option<u32>
-    ensures cores { StillMeets (stay_take core own.now) (stay_take core held.now) result }
-    ensures links { StillMeets (stay_take link own.now) (stay_take link held.now) result }
+    ensures { StillMeets (stay_take own.now) (stay_take held.now) result }
 {
-    if own.place != held.place {
+    if !own.place.is(held.place) {
         return Some(0);
     }
-    let Some(one) = own.hold else {
-        return Some(0);
-    };
-    let Some(other) = held.hold else {
-        return Some(0);
-    };
-    least_wait(one, other)
-}
-
-// By how many instants a task must be put off to be clear of the held one of this name, none where it never is.
-fn task_wait(held: &[Task], t: &Task, name: u16) -> Option<u32>
-    ensures { StillMet (task_takes t.now) (map held_task held.now) result }
-{
-    match pick(held, name) {
-        Some(other) => stay_wait(&stay_of(t), &stay_of(&other)),
-        None => Some(0),
+    match (own.hold, held.hold) {
+        (Some(one), Some(other)) => least_wait(one, other),
+        _ => Some(0),
     }
 }
 
-// The smallest phase at which the task meets none of those held.
-pub fn first_phase(held: &[Task], t: &OpenTask) -> Option<u32>
-    ensures { result ≡ first_from (λ v. clear (first_met (task_takes (task_at t.now v)) (map held_task held.now))) (t.now.period + 1 - t.now.width) 0 }
+// The stay at the place of this number, if there is one.
+fn stay_at(stays: &[Stay], number: u16) -> Option<Stay>
+    ensures { Among (map stay_take stays.now) result }
 {
-    let last = t.period.checked_sub(t.width)?;
-    let mut phase: u32 = 0;
-    while phase <= last {
-        let task = t.at(phase);
-        let Some(meeting) = first_task_meeting(held, &task) else {
-            return Some(phase);
-        };
-        let wait = task_wait(held, &task, meeting.held)?;
-        phase = phase.checked_add(wait.max(1))?;
-    }
-    None
+    stays
+        .iter()
+        .find(|stay| stay.place.number() == number)
+        .copied()
 }
 
-// The stay of packets on a link, where the link is on their way.
-fn stay_at<F: Fabric>(fabric: &F, way: &Way, link: u16) -> Option<Stay>
-    ensures { AmongTakes (over F.Fabric.meaning fabric.now) way.now result }
-{
-    for place in 0..F::reach() {
-        if let Some(stay) = stay_on(fabric, way, place) {
-            if stay.place == link {
-                return Some(stay);
-            }
-        }
-    }
-    None
-}
-
-// By how many instants packets must be put off to be clear of a held message on the link of a meeting, none where they never are.
-fn packet_wait<F: Fabric>(
-    fabric: &F,
-    tasks: &[Task],
-    held: &[Message],
-    own: &Way,
+// By how many instants a job must be put off to be clear of the held one that it meets, none where it never is.
+fn wait_past<F: Fabric, J: Job>(
+    board: &Board<'_, F>,
+    held: &[J],
+    own: &[Stay],
     meeting: &Meeting,
 ) -> Option<u32>
-    ensures { StillMet (way_takes (over F.Fabric.meaning fabric.now) own.now) (map (held_message (over F.Fabric.meaning fabric.now) tasks.now) held.now) result }
+    ensures { StillMet (map stay_take own.now) (map (job_of J.Named.label (J.Job.takes (setting_of F.Fabric.meaning board.now) board.now.tasks.now)) held.now) result }
 {
-    let Some(m) = pick(held, meeting.held) else {
+    let Some(job) = pick(held, meeting.held) else {
         return Some(0);
     };
-    let Some(way) = way_of(fabric, tasks, &m) else {
+    let Some(one) = stay_at(own, meeting.place) else {
         return Some(0);
     };
-    let Some(one) = stay_at(fabric, own, meeting.place) else {
-        return Some(0);
-    };
-    let Some(other) = stay_at(fabric, &way, meeting.place) else {
+    let Some(other) = stay_at(job.stays(board).as_slice(), meeting.place) else {
         return Some(0);
     };
     stay_wait(&one, &other)
 }
 
-// The smallest delay at which the message between two tasks is neither late nor meets a held one.
-pub fn first_delay<F: Fabric>(
-    fabric: &F,
-    tasks: &[Task],
-    held: &[Message],
-    source: &Task,
-    destination: &Task,
-    m: &OpenMessage,
-) -> Option<u32>
-    ensures { result ≡ first_from (λ v. clear (on_way (over F.Fabric.meaning fabric.now) (record { tasks = tasks.entry.now; messages = held.now }) (message_at m.now v) source.now destination.now ((over F.Fabric.meaning fabric.now).network.route source.now.core destination.now.core))) source.now.period 0 }
-{
-    let mut delay: u32 = 0;
-    while delay < source.period {
-        let message = m.at(delay);
-        let way = way_between(fabric, source, destination, &message)?;
-        if late_by(&way, destination, &message).is_some() {
-            return None;
+impl<'a, F: Fabric> Board<'a, F> {
+    // The smallest phase at which the task meets none of those held.
+    pub fn first_phase(&self, t: &OpenTask) -> Option<u32>
+        ensures { result ≡ first_from (λ v. clear (first_met (task_takes (task_at t.now v)) (map held_task self.now.tasks.now))) (t.now.period + 1 - t.now.width) 0 }
+    {
+        let last = t.period.checked_sub(t.width)?;
+        let mut phase: u32 = 0;
+        while phase <= last {
+            let task = t.at(phase);
+            let Some(meeting) = self.first_task_meeting(&task) else {
+                return Some(phase);
+            };
+            let wait = wait_past(self, self.tasks, &[stay_of(&task)], &meeting)?;
+            phase = phase.checked_add(wait.max(1))?;
         }
-        let Some(meeting) = first_packet_meeting(fabric, tasks, held, &way) else {
-            return Some(delay);
-        };
-        let wait = packet_wait(fabric, tasks, held, &way, &meeting)?;
-        delay = delay.checked_add(wait.max(1))?;
+        None
     }
-    None
+
+    // The smallest delay at which the message between two tasks is neither late nor meets a held one.
+    pub fn first_delay(&self, ends: &Ends, m: &OpenMessage) -> Option<u32>
+        ensures { result ≡ first_from (λ v. clear (on_way (setting_of F.Fabric.meaning self.now) (held_on self.now) (message_at m.now v) ends.now.source ends.now.destination ((F.Fabric.meaning self.now.fabric.now).route ends.now.source.core ends.now.destination.core))) ends.now.source.period 0 }
+    {
+        let mut delay: u32 = 0;
+        while delay < ends.source.period {
+            let message = m.at(delay);
+            let way = Way::between(self.fabric, ends, &message)?;
+            if late_by(&way, &ends.destination, &message).is_some() {
+                return None;
+            }
+            let Some(meeting) = self.first_packet_meeting(&way) else {
+                return Some(delay);
+            };
+            let stays = way.stays(self.fabric);
+            let wait = wait_past(self, self.messages, stays.as_slice(), &meeting)?;
+            delay = delay.checked_add(wait.max(1))?;
+        }
+        None
+    }
 }

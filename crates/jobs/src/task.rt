@@ -2,14 +2,17 @@
 ghost use Rattle.holds.specs.Held.{span};
 ghost use Rattle.jobs.specs.Meetings.{first_met, held_task};
 ghost use Rattle.jobs.specs.Rules.{task_timely};
-ghost use Rattle.jobs.specs.Takes.{core, task_hold, task_take, task_takes};
+ghost use Rattle.jobs.specs.Takes.{task_hold, task_take, task_takes};
 ghost use Rattle.jobs.specs.Ways.{stay_take};
 ghost use Rattle.std.specs.Option.{option_map};
 ghost use Rattle.std.specs.Prelude.{◌≡◌, map};
 
+use crate::board::Board;
 use crate::fault::Meeting;
-use crate::meeting::{earlier, meeting_at};
+use crate::meeting::first_among;
+use crate::place::Place;
 use crate::stay::Stay;
+use fabric::Fabric;
 use holds::Hold;
 use records::record::Task;
 
@@ -32,22 +35,19 @@ pub(crate) fn hold_of(t: &Task) -> Option<Hold>
 }
 
 pub(crate) fn stay_of(t: &Task) -> Stay
-    ensures { stay_take core result ≡ task_take t.now }
+    ensures { stay_take result ≡ task_take t.now }
 {
     Stay {
-        place: u16::from(t.core),
+        place: Place::Core(u16::from(t.core)),
         hold: hold_of(t),
     }
 }
 
-// The first meeting of the task with those held.
-pub fn first_task_meeting(held: &[Task], t: &Task) -> Option<Meeting>
-    ensures { result ≡ first_met (task_takes t.now) (map held_task held.now) }
-{
-    let own = stay_of(t);
-    let mut best = None;
-    for u in held {
-        best = earlier(best, meeting_at(u.name, &own, &stay_of(u)));
+impl<'a, F: Fabric> Board<'a, F> {
+    // The first meeting of the task with those held.
+    pub fn first_task_meeting(&self, t: &Task) -> Option<Meeting>
+        ensures { result ≡ first_met (task_takes t.now) (map held_task self.now.tasks.now) }
+    {
+        first_among(self, self.tasks, &[stay_of(t)])
     }
-    best
 }

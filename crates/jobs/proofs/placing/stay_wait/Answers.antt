@@ -1,16 +1,12 @@
-use Rattle.std.proofs.lemmas.Bool.{eq-eqb}
-use Rattle.jobs.specs.Takes.{core, link}
+use Rattle.std.proofs.Common.{◌≡◌, true, rules}
+use Rattle.jobs.specs.Takes.{same_place}
 use Rattle.jobs.proofs.Waits.{stays_meet}
 use Rattle.jobs.proofs.placing.stay_wait.Goals as goal
 
-pub returns : goal.returns
-returns c =
+pub returns-in-Some-Some : goal.returns-in-Some-Some
+returns-in-Some-Some c =
     let own = c.args.own.now in
     let held = c.args.held.now in
-    let same = eq-eqb own.place held.place c.if-own-held.false in
-    record {
-      cores = stays_meet (core own.place) (core held.place) own.hold held.hold c.in-Some.one c.in-Some-hold.other c.least_wait.result
-          c.in-Some.is c.in-Some-hold.is same c.least_wait.ensures;
-      links = stays_meet (link own.place) (link held.place) own.hold held.hold c.in-Some.one c.in-Some-hold.other c.least_wait.result
-          c.in-Some.is c.in-Some-hold.is same c.least_wait.ensures;
-    }
+    let same : same_place own.place held.place ≡ true = search rules in
+    stays_meet own.place held.place own.hold held.hold c.in-Some-Some.one c.in-Some-Some.other c.least_wait.result
+    (search rules) (search rules) same c.least_wait.ensures

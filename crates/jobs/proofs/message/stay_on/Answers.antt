@@ -1,8 +1,0 @@
-use Rattle.std.proofs.Common.{arith}
-use Rattle.fabric.proofs.Laws.{place_256}
-use Rattle.jobs.proofs.message.stay_on.Goals as goal
-
-pub overflow_cast-result : goal.overflow_cast-result
-overflow_cast-result g c =
-    let laws = g.F.Fabric.lawful c.args.fabric.now in
-    omega (arith, place_256 laws c.args.way.now.from c.args.way.now.to c.args.place c.in_ok-link.link c.in_ok-link.ensures)

@@ -1,0 +1,31 @@
+// What an offer or a question is about: the fabric and the held jobs.
+ghost use Rattle.jobs.specs.Boards.{ends_in};
+ghost use Rattle.std.specs.Prelude.{◌≡◌};
+
+use records::named::pick;
+use records::record::{Message, Task};
+
+pub struct Board<'a, F> {
+    pub fabric: &'a F,
+    pub tasks: &'a [Task],
+    pub messages: &'a [Message],
+}
+
+// The two tasks of a message.
+#[derive(Clone, Copy, PartialEq, Eq, Debug)]
+pub struct Ends {
+    pub source: Task,
+    pub destination: Task,
+}
+
+impl<'a, F> Board<'a, F> {
+    // The tasks that a message names, where both are held.
+    pub fn ends(&self, m: &Message) -> Option<Ends>
+        ensures { result ≡ ends_in self.now.tasks.now m.now }
+    {
+        Some(Ends {
+            source: pick(self.tasks, m.source)?,
+            destination: pick(self.tasks, m.destination)?,
+        })
+    }
+}

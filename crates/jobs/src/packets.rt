@@ -1,0 +1,63 @@
+// Packets between two tasks: the way that they go, and their stays on its links.
+ghost use Rattle.fabric.specs.Network.{route_place};
+ghost use Rattle.jobs.specs.Jobs.{over};
+ghost use Rattle.jobs.specs.Ways.{IsWay, StaysOn, stay_take, way_takes};
+ghost use Rattle.std.specs.Prelude.{◌≡◌, ◌≤◌, map, None, MatchOption};
+
+use crate::board::Ends;
+use crate::place::Place;
+use crate::stay::{Stay, Stays};
+use crate::way::Way;
+use fabric::Fabric;
+use holds::Hold;
+use records::record::Message;
+
+impl Way {
+    // The way of a message between two tasks, or none where the fabric has no route.
+    pub fn between<F: Fabric>(fabric: &F, ends: &Ends, m: &Message) -> Option<Way>
+        ensures { MatchOption result ((F.Fabric.meaning fabric.now).route ends.now.source.core ends.now.destination.core ≡ None) (IsWay (over F.Fabric.meaning fabric.now) ends.now.source ends.now.destination m.now) }
+    {
+        let source = ends.source;
+        let from = source.core as usize;
+        let to = ends.destination.core as usize;
+        let links = fabric.route_len(from, to)?;
+        Some(Way {
+            from,
+            to,
+            links,
+            start: u64::from(source.phase) + u64::from(source.width) + u64::from(m.delay),
+            hop: fabric.hop_delay() as u64,
+            period: source.period,
+            width: m.width,
+        })
+    }
+
+    // The stay of packets on the link at a place of their way.
+    fn stay_on<F: Fabric>(&self, fabric: &F, place: usize) -> Option<Stay>
+        requires { place ≤ 64 }
+        ensures { MatchOption result (None ≡ route_place ((F.Fabric.meaning fabric.now).route self.now.from self.now.to) place) (StaysOn (F.Fabric.meaning fabric.now) self.now place) }
+    {
+        let link = fabric.route_link(self.from, self.to, place)?;
+        Some(Stay {
+            place: Place::Link(link as u16),
+            hold: Hold::new(
+                self.start + place as u64 * self.hop,
+                self.period,
+                self.width,
+            ),
+        })
+    }
+
+    // The stays of packets on their way, one on each link.
+    pub(crate) fn stays<F: Fabric>(&self, fabric: &F) -> Stays
+        ensures { map stay_take result.items ≡ way_takes (over F.Fabric.meaning fabric.now) self.now }
+    {
+        let mut stays = Stays::new();
+        for place in 0..F::reach() {
+            if let Some(stay) = self.stay_on(fabric, place) {
+                stays.push(stay);
+            }
+        }
+        stays
+    }
+}
