@@ -1,8 +1,7 @@
-// One plan: the held tasks and messages stand at the front of their tables, in ascending names.
-ghost use Rattle.std.specs.Prelude.{◌≤◌};
-
+// One plan: a table of tasks and a table of messages.
 use fabric::Fabric;
 use records::record::{Message, Task};
+use records::tables::Table;
 
 mod drops;
 mod loading;
@@ -13,10 +12,6 @@ mod questions;
 #[derive(Drop)]
 pub struct Plan<'f, F: Fabric> {
     fabric: &'f F,
-    tasks: [Task; 64],
-    task_count: usize,
-    messages: [Message; 128],
-    message_count: usize,
-    ghost tasks_fit: { task_count ≤ 64 },
-    ghost messages_fit: { message_count ≤ 128 },
+    tasks: Table<Task, 64>,
+    messages: Table<Message, 128>,
 }

@@ -5,7 +5,7 @@ use Rattle.std.proofs.lemmas.Bool.{cond_both}
 use Rattle.records.specs.Named.{add, ascends, spot, without}
 use Rattle.records.specs.declared.record.Task.{Task}
 use Rattle.records.specs.declared.record.Message.{Message}
-use Rattle.records.proofs.Places.{ascends_add, ascends_without, length_add}
+use Rattle.records.proofs.Places.{ascends_add, ascends_without, length_add, spot_named}
 use Rattle.jobs.specs.declared.fault.DropFault.{DropFault}
 use Rattle.jobs.specs.declared.fault.TaskFault.TheVariants as task_fault
 use Rattle.jobs.specs.declared.open.OpenTask.{OpenTask}
@@ -22,7 +22,7 @@ use Rattle.plan.specs.Loading.{load}
 use Rattle.promise.specs.Canonical.{Canonical}
 use Rattle.promise.specs.Clean.{In}
 use Rattle.promise.proofs.Kept.{load_kept, message_offer_kept, message_place_kept, task_offer_kept, task_place_kept}
-use Rattle.promise.proofs.Lists.{apart_none, spot_named}
+use Rattle.promise.proofs.Lists.{apart_none}
 use Rattle.promise.proofs.Passing.{message_passes, task_passes}
 
 -- ---- lists with names that ascend

@@ -2,6 +2,7 @@
 use Rattle.std.proofs.Common.{◌≡◌, ℕ, Bool, true, false, cond, eqb, ◌⊎◌, List, [], ◌∷◌, is_some, Some, None, Ok, Err, Option, Result, sym, refl, ◌∙◌, subst, inl, inr, ⊎_elim, arith}
 use Rattle.std.proofs.lemmas.Bool.{both_ways, eq-eqb, eqb-true, or_cases, or_left, or_right}
 use Rattle.records.specs.Named.{named, spot}
+use Rattle.records.proofs.Places.{spot_named}
 use Rattle.records.specs.declared.record.Message.{Message}
 use Rattle.jobs.specs.declared.fault.DropFault.{DropFault}
 use Rattle.jobs.specs.declared.fault.DropFault.TheVariants.{InUse, Unknown}
@@ -9,7 +10,7 @@ use Rattle.jobs.specs.Drops.{drop_message, drop_task, in_use, names_task}
 use Rattle.jobs.specs.Jobs.{Jobs, message_name, task_name, without_message, without_task}
 use Rattle.promise.specs.Clean.{In}
 use Rattle.promise.specs.Droppings.{MessageDropped, TaskDropped}
-use Rattle.promise.proofs.Lists.{fresh_apart, in_cases, in_nil, in_there, named_in, spot_named}
+use Rattle.promise.proofs.Lists.{fresh_apart, in_cases, in_nil, in_there, named_in}
 
 -- a place that a name has is a member's
 held_spot : {X : Type 0} (name : X → ℕ) (n : ℕ) (xs : List X) → is_some (spot name n xs) ≡ true → (x : X) × In x xs × (name x ≡ n)

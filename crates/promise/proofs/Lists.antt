@@ -3,6 +3,7 @@ use Rattle.std.proofs.Common.{◌≡◌, ℕ, zero, suc, ◌<◌, true, false, c
 use Rattle.std.specs.Option.{option_map}
 use Rattle.std.proofs.lemmas.Bool.{cond_both, cond-true, cond-false, eq-eqb, eqb-false, eqb-true, ltb-true, ne_eqb, both_ways}
 use Rattle.records.specs.Named.{named, spot, add, without}
+use Rattle.records.proofs.Places.{some_on}
 use Rattle.promise.specs.Clean.{In, Distinct}
 
 -- ---- members
@@ -56,10 +57,6 @@ module _ {X Y : Type 0} (f : X → Y) where
 
 -- ---- distinct names
 
-some_on : (o : Option ℕ) → is_some (option_map suc o) ≡ is_some o
-some_on None = refl
-some_on (Some k) = refl
-
 module _ {X : Type 0} (name : X → ℕ) where
   -- the first has no name of the rest
   pub distinct_head : (x : X) (xs : List X) → Distinct name (x ∷ xs) → (y : X) → In y xs → name y ≡ name x → ⊥
@@ -99,12 +96,6 @@ module _ {X : Type 0} (name : X → ℕ) where
       (λ j. cond-false (eqb (name y) (name x)) (Some y) (named name (name x) ys) (ne_eqb (name y) (name x) (λ e. distinct_head y ys d x j (sym e)))
       ∙ in_named x ys (distinct_tail y ys d) j)
       (in_cases y x ys k)
-
-  pub spot_named : (n : ℕ) (xs : List X) → is_some (spot name n xs) ≡ is_some (named name n xs)
-  spot_named n [] = refl
-  spot_named n (x ∷ xs) =
-      elim (eqb (name x) n) as (λ b. is_some (cond b (Some 0) (option_map suc (spot name n xs))) ≡ is_some (cond b (Some x) (named name n xs)))
-      [ true ↦ refl | false ↦ some_on (spot name n xs) ∙ spot_named n xs ]
 
   -- a name that is not there is no member's
   pub fresh_apart : (n : ℕ) (xs : List X) → is_some (spot name n xs) ≡ false → (y : X) → In y xs → name y ≡ n → ⊥

@@ -4,6 +4,7 @@ use Rattle.std.specs.Option.{option_map}
 use Rattle.std.proofs.lemmas.Bool.{ne_eqb, or_from}
 use Rattle.fabric.specs.Network.{Lawful}
 use Rattle.records.specs.Named.{spot}
+use Rattle.records.proofs.Places.{spot_named}
 use Rattle.records.specs.declared.record.Task.{Task}
 use Rattle.records.specs.declared.record.Message.{Message}
 use Rattle.jobs.specs.declared.fault.Meeting.{Meeting}
@@ -22,7 +23,7 @@ use Rattle.promise.specs.Clean.{Clean, In, MessageMade, OnTime, PacketTakes}
 use Rattle.promise.specs.Offers.{FirstMeeting, MessageOffer, MessagePassed, MessageWhy, PacketsMeet}
 use Rattle.promise.proofs.Firsts.{FirstMet, first_met_none, first_met_some}
 use Rattle.promise.proofs.Lateness.{below, late_breaks, late_least, on_time}
-use Rattle.promise.proofs.Lists.{add_new, add_old, apart_none, distinct_add_apart, in_add, in_map, map_in, spot_named}
+use Rattle.promise.proofs.Lists.{add_new, add_old, apart_none, distinct_add_apart, in_add, in_map, map_in}
 use Rattle.promise.proofs.Meets.{message_takes_sound, messages_sound}
 use Rattle.promise.proofs.Packets.{Flows, flows, found_made, packets_meet, same_packet, takes_are, takes_meet}
 use Rattle.promise.proofs.Takes.{timely_made, timely_sent}

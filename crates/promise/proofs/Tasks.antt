@@ -5,6 +5,7 @@ use Rattle.std.proofs.lemmas.Bool.{ne_eqb, or_from}
 use Rattle.holds.specs.Span.{HoldsAt, Span}
 use Rattle.holds.proofs.Busy.{run_only}
 use Rattle.records.specs.Named.{add, spot}
+use Rattle.records.proofs.Places.{spot_named}
 use Rattle.records.specs.declared.record.Task.{Task}
 use Rattle.records.specs.declared.record.Message.{Message}
 use Rattle.jobs.specs.declared.fault.Meeting.{Meeting}
@@ -20,7 +21,7 @@ use Rattle.plan.proofs.Placing.{task_passed}
 use Rattle.promise.specs.Clean.{Clean, In, MessageMade, PacketTakes, RunTakes, TaskMade, Ways}
 use Rattle.promise.specs.Offers.{FirstMeeting, TaskOffer, TaskPassed, TaskWhy, TasksMeet}
 use Rattle.promise.proofs.Firsts.{FirstMet, first_met_none, first_met_some}
-use Rattle.promise.proofs.Lists.{add_new, add_old, apart_none, distinct_add_apart, in_add, in_cases, in_map, in_nil, map_in, named_add_other, named_in, spot_named}
+use Rattle.promise.proofs.Lists.{add_new, add_old, apart_none, distinct_add_apart, in_add, in_cases, in_map, in_nil, map_in, named_add_other, named_in}
 use Rattle.promise.proofs.Meets.{MeetAt, task_takes_sound, tasks_sound}
 use Rattle.promise.proofs.Takes.{span_made, timely_made}
 

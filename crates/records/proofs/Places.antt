@@ -1,47 +1,44 @@
 -- Where a name stands in a list of records. Assumes nothing.
-use Rattle.std.proofs.Common.{◌≡◌, ℕ, suc, ◌+◌, ◌-◌, ◌<◌, ◌≤◌, Bool, true, false, cond, ◌&&◌, eqb, ltb, List, [], ◌∷◌, length, get_or, take, drop, Some, None, Option, sym, refl, ap, ◌∙◌, subst, add-zero, arith}
-use native.Mathlib.Nat.{sub-zero}
+use Rattle.std.proofs.Common.{◌≡◌, ℕ, suc, ◌+◌, ◌<◌, ◌≤◌, Bool, true, false, not, cond, ◌&&◌, eqb, ltb, List, [], ◌∷◌, length, get_or, is_some, Some, None, Option, sym, refl, ap, ◌∙◌, subst, arith}
+use Rattle.std.proofs.Math.Numerals.{one-add}
+use Prim.Native.Nat.compare
 use Rattle.std.specs.Option.{option_map}
-use Rattle.std.specs.List.{insert, remove}
-use Rattle.std.proofs.lemmas.List.{drop_more, drop_all, length-take-le}
-use Rattle.std.proofs.lemmas.Bool.{cond-true, cond-false, cond_both, le-ltb, lt-ltb, eq-eqb, ne_eqb, ltb-true, ltb-false, eqb-false, and_parts, and_from}
-use Rattle.records.specs.Named.{named, lone, place, spot, add, without, ascends}
+use Rattle.std.specs.List.{insert, position, position_or_len, prefix_len, remove}
+use Rattle.std.proofs.lemmas.Bool.{cond-true, cond-false, cond_both, lt-ltb, ltb-true, ltb-false, eqb-false, and_parts, and_from}
+use Rattle.records.specs.Named.{named, place, spot, add, without, ascends}
 
--- a place counted from i, one further on
-both_on : (i : ℕ) (o : Option ℕ) → option_map (λ k. i + k) (option_map suc o) ≡ option_map (λ k. i + 1 + k) o
-both_on i None = refl
-both_on i (Some k) = ap Some (omega arith)
+-- a test for a place, one further on
+further : (b : Bool) (k : ℕ) → option_map suc (cond b (Some k) None) ≡ cond b (Some (suc k)) None
+further true k = refl
+further false k = refl
 
 module _ {X : Type 0} (f : X → ℕ) (n : ℕ) where
-  -- what is left from place i on begins with the record there
-  here : (xs : List X) (i : ℕ) (x : X) → i < length xs → x ≡ get_or xs i x → drop i xs ≡ x ∷ drop (i + 1) xs
-  here xs i x h e = drop_more xs i x h ∙ ap (λ y. y ∷ drop (i + 1) xs) (sym e)
+  -- where the first record of a name stands is the first place whose record has it
+  pub spot_is : (xs : List X) → spot f n xs ≡ position (λ x. eqb (f x) n) xs
+  spot_is [] = refl
+  spot_is (x ∷ xs) =
+      let at = position_or_len (λ y. eqb (f y) n) xs in
+      let e : ltb (suc at) (suc (length xs)) ≡ ltb at (length xs) = simp compare.suc-suc in
+      elim (eqb (f x) n) as (λ b. cond b (Some 0) (option_map suc (spot f n xs)) ≡ cond (ltb (cond (not b) (1 + at) 0) (suc (length xs))) (Some (cond (not b) (1 + at) 0)) None)
+      [ true ↦ sym (cond-true (ltb 0 (suc (length xs))) (Some 0) None (lt-ltb 0 (suc (length xs)) (omega arith))) | false ↦ rw (one-add, e) (ap (option_map suc) (spot_is xs) ∙ further (ltb at (length xs)) at) ]
 
-  -- a walk by place: it stops at a name that is not below, goes on past one that is, or ends
-  pub place_stop : (xs : List X) (i p : ℕ) (x : X) → i < length xs → x ≡ get_or xs i x → n ≤ f x → i + place f n (drop i xs) ≡ p → i ≡ p
-  place_stop xs i p x h e t inv =
-      let at : place f n (drop i xs) ≡ 0 = ap (place f n) (here xs i x h e) ∙ cond-false (ltb (f x) n) _ _ (le-ltb (f x) n t) in omega arith
+  -- the place of a name is past those in front that are below it
+  pub place_is : (xs : List X) → place f n xs ≡ prefix_len (λ x. ltb (f x) n) xs
+  place_is [] = refl
+  place_is (x ∷ xs) =
+      elim (ltb (f x) n) as (λ b. cond b (suc (place f n xs)) 0 ≡ cond b (1 + prefix_len (λ y. ltb (f y) n) xs) 0)
+      [ true ↦ rw one-add (ap suc (place_is xs)) | false ↦ refl ]
 
-  pub place_on : (xs : List X) (i p : ℕ) (x : X) → i < length xs → x ≡ get_or xs i x → f x < n → i + place f n (drop i xs) ≡ p → i + 1 + place f n (drop (i + 1) xs) ≡ p
-  place_on xs i p x h e t inv =
-      let at : place f n (drop i xs) ≡ suc (place f n (drop (i + 1) xs)) = ap (place f n) (here xs i x h e) ∙ cond-true (ltb (f x) n) _ _ (lt-ltb (f x) n t) in omega arith
+-- it is found either way
+pub some_on : (o : Option ℕ) → is_some (option_map suc o) ≡ is_some o
+some_on None = refl
+some_on (Some k) = refl
 
-  pub place_end : (xs : List X) (i p : ℕ) → length xs ≤ i → i ≤ length xs → i + place f n (drop i xs) ≡ p → length xs ≡ p
-  place_end xs i p h k inv = let at : place f n (drop i xs) ≡ 0 = ap (place f n) (drop_all i xs h) in omega arith
-
-  -- a walk by spot: it stops at the name, goes on past another, or ends
-  pub spot_stop : (xs : List X) (i : ℕ) (r : Option ℕ) (x : X) → i < length xs → x ≡ get_or xs i x → f x ≡ n → option_map (λ k. i + k) (spot f n (drop i xs)) ≡ r → Some i ≡ r
-  spot_stop xs i r x h e t inv =
-      let at : spot f n (drop i xs) ≡ Some 0 = ap (spot f n) (here xs i x h e) ∙ cond-true (eqb (f x) n) _ _ (eq-eqb (f x) n t) in
-      ap Some (sym (add-zero i)) ∙ ap (option_map (λ k. i + k)) (sym at) ∙ inv
-
-  pub spot_on : (xs : List X) (i : ℕ) (r : Option ℕ) (x : X) → i < length xs → x ≡ get_or xs i x → (f x ≡ n → ⊥) → option_map (λ k. i + k) (spot f n (drop i xs)) ≡ r → option_map (λ k. i + 1 + k) (spot f n (drop (i + 1) xs)) ≡ r
-  spot_on xs i r x h e t inv =
-      let at : spot f n (drop i xs) ≡ option_map suc (spot f n (drop (i + 1) xs)) = ap (spot f n) (here xs i x h e) ∙ cond-false (eqb (f x) n) _ _ (ne_eqb (f x) n t) in
-      sym (both_on i (spot f n (drop (i + 1) xs))) ∙ ap (option_map (λ k. i + k)) (sym at) ∙ inv
-
-  pub spot_end : (xs : List X) (i : ℕ) (r : Option ℕ) → length xs ≤ i → option_map (λ k. i + k) (spot f n (drop i xs)) ≡ r → None ≡ r
-  spot_end xs i r h inv = ap (λ l. option_map (λ k. i + k) (spot f n l)) (sym (drop_all i xs h)) ∙ inv
+pub spot_named : {X : Type 0} (f : X → ℕ) (n : ℕ) (xs : List X) → is_some (spot f n xs) ≡ is_some (named f n xs)
+spot_named f n [] = refl
+spot_named f n (x ∷ xs) =
+    elim (eqb (f x) n) as (λ b. is_some (cond b (Some 0) (option_map suc (spot f n xs))) ≡ is_some (cond b (Some x) (named f n xs)))
+    [ true ↦ refl | false ↦ some_on (spot f n xs) ∙ spot_named f n xs ]
 
 -- a place one further on comes from a place
 step : (o : Option ℕ) (i : ℕ) → option_map suc o ≡ Some i → (k : ℕ) × (o ≡ Some k) × (i ≡ suc k)
@@ -86,16 +83,6 @@ module _ {X : Type 0} (f : X → ℕ) where
   named_none n (x ∷ xs) e =
       let p = apart (eqb (f x) n) (spot f n xs) e in
       cond-false (eqb (f x) n) (Some x) (named f n xs) p.0 ∙ named_none n xs p.1
-
-  -- the record at a spot, alone
-  pub lone_at : (n : ℕ) (xs : List X) (i : ℕ) → spot f n xs ≡ Some i → take 1 (drop i xs) ≡ lone f n xs
-  lone_at n [] i e = let z : ◌≡◌ {A = ℕ} 0 1 = cc in absurd (omega arith)
-  lone_at n (x ∷ xs) i e =
-      (elim (eqb (f x) n) as (λ b. cond b (Some 0) (option_map suc (spot f n xs)) ≡ Some i → take 1 (drop i (x ∷ xs)) ≡ cond b (x ∷ []) (lone f n xs)) [
-        | true ↦ λ z. let j : 0 ≡ i = cc in subst (λ k. take 1 (drop k (x ∷ xs)) ≡ x ∷ []) j refl
-        | false ↦ λ z. let (k, at, is) = step (spot f n xs) i z in
-            subst (λ m. take 1 (drop m (x ∷ xs)) ≡ lone f n xs) (sym is) (lone_at n xs k at)
-      ]) e
 
   -- a spot is within, and to take it out is to leave its name out
   pub spot_within : (n : ℕ) (xs : List X) (i : ℕ) → spot f n xs ≡ Some i → (i < length xs) × (remove xs i ≡ without f n xs)
@@ -156,21 +143,3 @@ module _ {X : Type 0} (f : X → ℕ) where
       (λ t. and_from (ltb m (f y)) (ascends f (f y) (add f x ys)) p.0 (ascends_add (f y) x ys (ltb-true (f y) (f x) t) q.1 p.1))
       (λ t. and_from (ltb m (f x)) (ltb (f x) (f y) && ascends f (f y) ys) (lt-ltb m (f x) h)
       (and_from (ltb (f x) (f y)) (ascends f (f y) ys) (lt-ltb (f x) (f y) (above (f y) (f x) (ltb-false (f y) (f x) t) (eqb-false (f y) (f x) q.0))) p.1))
-
-  -- a place in the held part of a table
-  pub place_held : (n k : ℕ) (xs : List X) (p : ℕ) → k ≤ length xs → p ≡ place f n (take (k - 0) (drop 0 xs)) → (p ≡ place f n (take k xs)) × (p ≤ k)
-  place_held n k xs p h e =
-      let is : p ≡ place f n (take k xs) = e ∙ ap (λ j. place f n (take j xs)) (sub-zero k) in
-      (is, omega (arith, place_within n (take k xs), length-take-le k xs h))
-
-  -- a record put in at its place of the held part is added to it
-  pub put_is : (n : ℕ) (x : X) (xs ys : List X) (p : ℕ) → p ≡ place f (f x) (take (n - 0) (drop 0 xs)) → take (n + 1) ys ≡ insert (take n xs) p x → take (n + 1) ys ≡ add f x (take n xs)
-  put_is n x xs ys p e h =
-      h ∙ ap (λ q. insert (take n xs) q x) (e ∙ ap (λ j. place f (f x) (take j xs)) (sub-zero n)) ∙ add_is x (take n xs)
-
-  -- a spot in the held part of a table
-  pub spot_held : (n k : ℕ) (xs : List X) (i : ℕ) → k ≤ length xs → Some i ≡ spot f n (take (k - 0) (drop 0 xs)) → (spot f n (take k xs) ≡ Some i) × (i < k) × (remove (take k xs) i ≡ without f n (take k xs))
-  spot_held n k xs i h e =
-      let is : spot f n (take k xs) ≡ Some i = sym (e ∙ ap (λ j. spot f n (take j xs)) (sub-zero k)) in
-      let w = spot_within n (take k xs) i is in
-      (is, omega (arith, length-take-le k xs h), w.1)

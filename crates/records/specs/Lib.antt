@@ -4,3 +4,4 @@ pub mod Sections
 pub mod Named
 pub mod Head
 pub mod Unique
+pub mod Tables

@@ -1,27 +1,20 @@
 -- Lists of records that have names. Assumes nothing.
---   named, lone, spot the first record of a name, a list of that alone, and where it stands
---   place, add        where a record goes, and the list with it there
---   without           the list without the first record of a name
---   ascends           the names ascend
--- A table is a list of which the first so many records are held.
---   takes, drops      whether a record can be put into a table, and whether a name can be taken out
-use Rattle.std.specs.Prelude.{ℕ, suc, Bool, true, cond, ◌&&◌, List, [], ◌∷◌, length, take, is_some, Some, None, Option, ◌==◌, nat_le, nat_lt}
+--   named, spot   the first record of a name, and where it stands
+--   place, add    where a record goes, and the list with it there
+--   without       the list without the first record of a name
+--   ascends       the names ascend
+use Rattle.std.specs.Prelude.{ℕ, suc, Bool, true, cond, ◌&&◌, List, [], ◌∷◌, Some, None, Option, ◌==◌, nat_lt}
+use Rattle.std.specs.List.{find}
 use Rattle.std.specs.Option.{option_map}
 
 -- the first record of the name n
 abbrev pub named : {X : Type 0} → (X → ℕ) → ℕ → List X → Option X
-named f n [] = None
-named f n (x ∷ xs) = cond (f x == n) (Some x) (named f n xs)
+named f n = find (λ x. f x == n)
 
 -- where the first record of the name n stands
 abbrev pub spot : {X : Type 0} → (X → ℕ) → ℕ → List X → Option ℕ
 spot f n [] = None
 spot f n (x ∷ xs) = cond (f x == n) (Some 0) (option_map suc (spot f n xs))
-
--- the first record of the name n alone, or nothing
-abbrev pub lone : {X : Type 0} → (X → ℕ) → ℕ → List X → List X
-lone f n [] = []
-lone f n (x ∷ xs) = cond (f x == n) (x ∷ []) (lone f n xs)
 
 -- how many records stand before the first whose name is not below n
 abbrev pub place : {X : Type 0} → (X → ℕ) → ℕ → List X → ℕ
@@ -42,11 +35,3 @@ without f n (x ∷ xs) = cond (f x == n) xs (x ∷ without f n xs)
 abbrev pub ascends : {X : Type 0} → (X → ℕ) → ℕ → List X → Bool
 ascends f n [] = true
 ascends f n (x ∷ xs) = nat_lt n (f x) && ascends f (f x) xs
-
--- a table with a number of records held has room for one more
-abbrev pub takes : {X : Type 0} → ℕ → List X → Bool
-takes count xs = nat_lt count (length xs)
-
--- a table has so many records held, and one of them has the name n
-abbrev pub drops : {X : Type 0} → (X → ℕ) → ℕ → ℕ → List X → Bool
-drops f n count xs = nat_le count (length xs) && is_some (spot f n (take count xs))

@@ -32,18 +32,12 @@ impl Named for Message {
 pub fn find<R: Named>(records: &[R], name: u16) -> Option<usize>
     ensures { result ≡ spot R.Named.label name records.now }
 {
-    for (i, x) in records.iter().enumerate() {
-        if x.name() == name {
-            return Some(i);
-        }
-    }
-    None
+    records.iter().position(|x| x.name() == name)
 }
 
 // The first record of a name.
 pub fn pick<R: Named + Copy>(records: &[R], name: u16) -> Option<R>
     ensures { result ≡ named R.Named.label name records.now }
 {
-    let at = find(records, name)?;
-    Some(records[at])
+    records.iter().find(|x| x.name() == name).copied()
 }

@@ -10,7 +10,6 @@ use fabric::Fabric;
 use jobs::fault::DropFault;
 use jobs::message::names_task;
 use records::named::find;
-use records::tables::remove;
 
 impl<'f, F: Fabric> Plan<'f, F> {
     // Takes the task of this name out, unless a held message names it.
@@ -21,14 +20,13 @@ impl<'f, F: Fabric> Plan<'f, F> {
         ensures fabric { self.new.fabric ≡ self.old.fabric }
         ensures refused { is_ok result ≡ false → self.new ≡ self.old }
     {
-        if find(&self.tasks[0..self.task_count], name).is_none() {
+        if find(self.tasks.held(), name).is_none() {
             return Err(DropFault::Unknown);
         }
-        if names_task(&self.messages[0..self.message_count], name) {
+        if names_task(self.messages.held(), name) {
             return Err(DropFault::InUse);
         }
-        remove(&mut self.tasks, self.task_count, name);
-        self.task_count -= 1;
+        self.tasks.remove(name);
         Ok(())
     }
 
@@ -40,11 +38,9 @@ impl<'f, F: Fabric> Plan<'f, F> {
         ensures fabric { self.new.fabric ≡ self.old.fabric }
         ensures refused { is_ok result ≡ false → self.new ≡ self.old }
     {
-        if find(&self.messages[0..self.message_count], name).is_none() {
-            return Err(DropFault::Unknown);
+        match self.messages.remove(name) {
+            Some(_) => Ok(()),
+            None => Err(DropFault::Unknown),
         }
-        remove(&mut self.messages, self.message_count, name);
-        self.message_count -= 1;
-        Ok(())
     }
 }

@@ -1,5 +1,5 @@
 // New plans, and the offers of tasks and messages.
-ghost use Rattle.std.specs.Prelude.{◌≡◌, ℕ, ◌<◌, true, false, List, is_ok, Some, None, Option, MatchResult};
+ghost use Rattle.std.specs.Prelude.{◌≡◌, ℕ, ◌<◌, true, false, List, length, is_ok, Some, None, Option, MatchResult};
 ghost use Rattle.jobs.specs.Jobs.{nothing, with_message, with_task};
 ghost use Rattle.jobs.specs.Numbers.{message_told, task_told};
 ghost use Rattle.jobs.specs.Checks.{message_checks, routed_checks, task_checks};
@@ -20,7 +20,7 @@ use jobs::task::first_task_meeting;
 use jobs::{message, task};
 use records::named::{find, pick};
 use records::record::{Message, Task};
-use records::tables::insert;
+use records::tables::Table;
 
 impl<'f, F: Fabric> Plan<'f, F> {
     pub fn new(fabric: &'f F) -> Self
@@ -29,10 +29,8 @@ impl<'f, F: Fabric> Plan<'f, F> {
     {
         Plan {
             fabric,
-            tasks: [Task::EMPTY; 64],
-            task_count: 0,
-            messages: [Message::EMPTY; 128],
-            message_count: 0,
+            tasks: Table::new([Task::EMPTY; 64]),
+            messages: Table::new([Message::EMPTY; 128]),
         }
     }
 
@@ -40,7 +38,7 @@ impl<'f, F: Fabric> Plan<'f, F> {
     pub(super) fn task_checks(&self, t: &Task) -> Result<(), TaskFault>
         ensures { MatchResult result (λ _. TaskPast (setting F.Fabric.meaning self.now).network.nodes (jobs self.now) t.now) (λ e. (rest : Option TaskFaultOf) → task_checks (setting F.Fabric.meaning self.now).network.nodes (jobs self.now) t.now rest ≡ Some e) }
     {
-        let held = &self.tasks[0..self.task_count];
+        let held = self.tasks.held();
         if t.name == 0 || find(held, t.name).is_some() {
             return Err(TaskFault::Name);
         }
@@ -50,7 +48,7 @@ impl<'f, F: Fabric> Plan<'f, F> {
         if !task::timely(t) {
             return Err(TaskFault::Times);
         }
-        if self.task_count >= 64 {
+        if self.tasks.is_full() {
             return Err(TaskFault::Full);
         }
         Ok(())
@@ -59,25 +57,24 @@ impl<'f, F: Fabric> Plan<'f, F> {
     // The first check that refuses a task.
     fn task_refusal(&self, t: &Task) -> Option<TaskFault>
         ensures answer { result ≡ task_refusal (setting F.Fabric.meaning self.now).network.nodes (jobs self.now) t.now }
-        ensures room { result ≡ None → self.now.task_count < 64 }
+        ensures room { result ≡ None → length (jobs self.now).tasks < 64 }
     {
         if let Err(fault) = self.task_checks(t) {
             return Some(fault);
         }
-        match first_task_meeting(&self.tasks[0..self.task_count], t) {
+        match first_task_meeting(self.tasks.held(), t) {
             Some(meeting) => Some(TaskFault::Meets(meeting)),
             None => None,
         }
     }
 
-    // One task more.
+    // One task more: there is room, so the insertion is not refused.
     pub(super) fn hold_task(&mut self, t: Task)
-        requires { self.old.task_count < 64 }
+        requires { length (jobs self.old).tasks < 64 }
         ensures after { jobs self.new ≡ with_task (jobs self.old) t }
         ensures fabric { self.new.fabric ≡ self.old.fabric }
     {
-        insert(&mut self.tasks, self.task_count, t);
-        self.task_count += 1;
+        let _ = self.tasks.insert(t);
     }
 
     // The task is held where no check refuses it.
@@ -99,10 +96,10 @@ impl<'f, F: Fabric> Plan<'f, F> {
     fn message_ends(&self, m: &Message) -> Result<(Task, Task), MessageFault>
         ensures { MatchResult result (λ p. EndsPast (jobs self.now) m.now p.0 p.1) (λ e. (rest : TaskOf → TaskOf → List ℕ → Option MessageFaultOf) → message_checks (setting F.Fabric.meaning self.now) (jobs self.now) m.now rest ≡ Some e) }
     {
-        if m.name == 0 || find(&self.messages[0..self.message_count], m.name).is_some() {
+        if m.name == 0 || find(self.messages.held(), m.name).is_some() {
             return Err(MessageFault::Name);
         }
-        let tasks = &self.tasks[0..self.task_count];
+        let tasks = self.tasks.held();
         let Some(source) = pick(tasks, m.source) else {
             return Err(MessageFault::Ends);
         };
@@ -117,7 +114,7 @@ impl<'f, F: Fabric> Plan<'f, F> {
 
     // The checks of a message that come before lateness and meetings: its source and destination, where it passes them.
     pub(super) fn message_checks(&self, m: &Message) -> Result<(Task, Task), MessageFault>
-        ensures room { is_ok result ≡ true → self.now.message_count < 128 }
+        ensures room { is_ok result ≡ true → length (jobs self.now).messages < 128 }
         ensures checked { MatchResult result (λ p. MessagePast (setting F.Fabric.meaning self.now) (jobs self.now) m.now p.0 p.1) (λ e. (rest : TaskOf → TaskOf → List ℕ → Option MessageFaultOf) → message_checks (setting F.Fabric.meaning self.now) (jobs self.now) m.now rest ≡ Some e) }
     {
         let (source, destination) = self.message_ends(m)?;
@@ -127,16 +124,15 @@ impl<'f, F: Fabric> Plan<'f, F> {
 
     // The checks of the route and the room.
     fn route_checks(&self, source: &Task, destination: &Task) -> Result<(), MessageFault>
-        ensures room { is_ok result ≡ true → self.now.message_count < 128 }
+        ensures room { is_ok result ≡ true → length (jobs self.now).messages < 128 }
         ensures checked { MatchResult result (λ _. RoutePast (setting F.Fabric.meaning self.now) (jobs self.now) source.now destination.now) (λ e. (rest : List ℕ → Option MessageFaultOf) → routed_checks (jobs self.now) ((setting F.Fabric.meaning self.now).network.route source.now.core destination.now.core) rest ≡ Some e) }
     {
-        let held = &self.messages[0..self.message_count];
         let from = source.core as usize;
         let to = destination.core as usize;
         let Some(_) = self.fabric.route_len(from, to) else {
             return Err(MessageFault::NoRoute);
         };
-        if held.len() >= 128 {
+        if self.messages.is_full() {
             return Err(MessageFault::Full);
         }
         Ok(())
@@ -146,8 +142,8 @@ impl<'f, F: Fabric> Plan<'f, F> {
     fn packet_refusal(&self, source: &Task, destination: &Task, m: &Message) -> Option<MessageFault>
         ensures { result ≡ on_way (setting F.Fabric.meaning self.now) (jobs self.now) m.now source.now destination.now ((setting F.Fabric.meaning self.now).network.route source.now.core destination.now.core) }
     {
-        let tasks = &self.tasks[0..self.task_count];
-        let held = &self.messages[0..self.message_count];
+        let tasks = self.tasks.held();
+        let held = self.messages.held();
         let Some(way) = way_between(self.fabric, source, destination, m) else {
             return Some(MessageFault::NoRoute);
         };
@@ -162,7 +158,7 @@ impl<'f, F: Fabric> Plan<'f, F> {
 
     // The first check past the limits that refuses a message between two held tasks.
     fn way_refusal(&self, source: &Task, destination: &Task, m: &Message) -> Option<MessageFault>
-        ensures room { result ≡ None → self.now.message_count < 128 }
+        ensures room { result ≡ None → length (jobs self.now).messages < 128 }
         ensures answer { result ≡ routed_refusal (setting F.Fabric.meaning self.now) (jobs self.now) m.now source.now destination.now ((setting F.Fabric.meaning self.now).network.route source.now.core destination.now.core) }
     {
         match self.route_checks(source, destination) {
@@ -173,7 +169,7 @@ impl<'f, F: Fabric> Plan<'f, F> {
 
     // The first check that refuses a message.
     fn message_refusal(&self, m: &Message) -> Option<MessageFault>
-        ensures room { result ≡ None → self.now.message_count < 128 }
+        ensures room { result ≡ None → length (jobs self.now).messages < 128 }
         ensures answer { result ≡ message_refusal (setting F.Fabric.meaning self.now) (jobs self.now) m.now }
     {
         match self.message_ends(m) {
@@ -182,14 +178,13 @@ impl<'f, F: Fabric> Plan<'f, F> {
         }
     }
 
-    // One message more.
+    // One message more: there is room, so the insertion is not refused.
     pub(super) fn hold_message(&mut self, m: Message)
-        requires { self.old.message_count < 128 }
+        requires { length (jobs self.old).messages < 128 }
         ensures after { jobs self.new ≡ with_message (jobs self.old) m }
         ensures fabric { self.new.fabric ≡ self.old.fabric }
     {
-        insert(&mut self.messages, self.message_count, m);
-        self.message_count += 1;
+        let _ = self.messages.insert(m);
     }
 
     // The message is held where no check refuses it.

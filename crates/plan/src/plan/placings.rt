@@ -3,7 +3,7 @@ ghost use Rattle.jobs.specs.Numbers.{message_placing_told, task_placing_told};
 ghost use Rattle.jobs.specs.Placings.{place_message, place_task};
 ghost use Rattle.plan.specs.Held.{jobs, setting};
 ghost use Rattle.refusals.specs.Told.{refusal_of};
-ghost use Rattle.std.specs.Prelude.{◌≡◌, ◌<◌, true, false, is_ok};
+ghost use Rattle.std.specs.Prelude.{◌≡◌, ◌<◌, true, false, is_ok, length};
 
 use super::Plan;
 use fabric::Fabric;
@@ -15,9 +15,9 @@ impl<'f, F: Fabric> Plan<'f, F> {
     // The smallest phase that an offer of the task would be taken with.
     fn phase_for(&self, t: &OpenTask) -> Result<u32, TaskPlacingFault>
         ensures answer { result ≡ (place_task (setting F.Fabric.meaning self.now) (jobs self.now) t.now).0 }
-        ensures room { is_ok result ≡ true → self.now.task_count < 64 }
+        ensures room { is_ok result ≡ true → length (jobs self.now).tasks < 64 }
     {
-        let held = &self.tasks[0..self.task_count];
+        let held = self.tasks.held();
         if let Err(fault) = self.task_checks(&t.at(0)) {
             return Err(TaskPlacingFault::Offer(fault));
         }
@@ -47,10 +47,10 @@ impl<'f, F: Fabric> Plan<'f, F> {
     // The smallest delay that an offer of the message would be taken with.
     fn delay_for(&self, m: &OpenMessage) -> Result<u32, MessagePlacingFault>
         ensures answer { result ≡ (place_message (setting F.Fabric.meaning self.now) (jobs self.now) m.now).0 }
-        ensures room { is_ok result ≡ true → self.now.message_count < 128 }
+        ensures room { is_ok result ≡ true → length (jobs self.now).messages < 128 }
     {
-        let tasks = &self.tasks[0..self.task_count];
-        let held = &self.messages[0..self.message_count];
+        let tasks = self.tasks.held();
+        let held = self.messages.held();
         let (source, destination) = match self.message_checks(&m.at(0)) {
             Ok(ends) => ends,
             Err(fault) => return Err(MessagePlacingFault::Offer(fault)),

@@ -17,10 +17,10 @@ impl<'f, F: Fabric> Plan<'f, F> {
         ensures answer { result ≡ slack (setting F.Fabric.meaning self.now) (jobs self.now) name }
         ensures least { IfOk result (HeldSlack (setting F.Fabric.meaning self.now) (jobs self.now) name) }
     {
-        let Some(m) = pick(&self.messages[0..self.message_count], name) else {
+        let Some(m) = pick(self.messages.held(), name) else {
             return Err(DropFault::Unknown);
         };
-        match slack_of(self.fabric, &self.tasks[0..self.task_count], &m) {
+        match slack_of(self.fabric, self.tasks.held(), &m) {
             Some(slack) => Ok(slack),
             None => Err(DropFault::Unknown),
         }
@@ -33,7 +33,7 @@ impl<'f, F: Fabric> Plan<'f, F> {
         if core as usize >= self.fabric.nodes() {
             return Err(PlaceFault);
         }
-        Ok(core_holder(&self.tasks[0..self.task_count], core, instant))
+        Ok(core_holder(self.tasks.held(), core, instant))
     }
 
     // Who holds a link at an instant: the message's name and its packet, or none.
@@ -44,8 +44,8 @@ impl<'f, F: Fabric> Plan<'f, F> {
         if link as usize >= self.fabric.link_numbers() {
             return Err(PlaceFault);
         }
-        let tasks = &self.tasks[0..self.task_count];
-        let held = &self.messages[0..self.message_count];
+        let tasks = self.tasks.held();
+        let held = self.messages.held();
         Ok(link_holder(self.fabric, tasks, held, link, instant))
     }
 }

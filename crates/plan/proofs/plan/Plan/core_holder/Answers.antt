@@ -1,5 +1,4 @@
-use Rattle.std.proofs.Common.{◌≡◌, ℕ, ◌<◌, leb, map, take, Ok, Option, sym, ap, ◌∙◌, subst, arith}
-use native.Mathlib.Nat.{sub-zero}
+use Rattle.std.proofs.Common.{◌≡◌, ℕ, ◌<◌, leb, map, Ok, Option, sym, ap, ◌∙◌, subst, arith}
 use Rattle.std.proofs.lemmas.Bool.{cond-false, lt-leb}
 use Rattle.jobs.specs.Holding.{HolderIs, holder_among}
 use Rattle.jobs.specs.Meetings.{held_task}
@@ -15,7 +14,7 @@ returns g c =
     let held = map held_task (jobs p).tasks in
     let nodes = (setting g.F.Fabric.meaning p).network.nodes in
     let told : c.core_holder.result ≡ holder_among (core c.args.core) c.args.instant held =
-    c.core_holder.ensures ∙ ap (λ k. holder_among (core c.args.core) c.args.instant (map held_task (take k p.tasks))) (sub-zero p.task_count) in
+    c.core_holder.ensures ∙ ap (λ l. holder_among (core c.args.core) c.args.instant (map held_task l)) c.held.ensures in
     let below : c.args.core < nodes = omega (arith, c.nodes.ensures) in
     record {
       answer = ap Ok told ∙ sym (cond-false (leb nodes c.args.core) _ _ (lt-leb nodes c.args.core below));

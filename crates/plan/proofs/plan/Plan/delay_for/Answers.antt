@@ -1,6 +1,7 @@
-use Rattle.std.proofs.Common.{◌≡◌, ℕ, ◌-◌, take, Some, None, Option, sym, refl, ap, ◌∙◌, subst, rules}
-use native.Mathlib.Nat.{sub-zero}
+use Rattle.std.proofs.Common.{◌≡◌, ℕ, List, Some, None, Option, sym, refl, ap, ◌∙◌, subst, rules}
 use Rattle.holds.specs.Search.{first_from}
+use Rattle.records.specs.declared.record.Message.{Message}
+use Rattle.records.specs.declared.record.Task.{Task}
 use Rattle.jobs.specs.Open.{message_at}
 use Rattle.jobs.specs.Past.{MessagePast}
 use Rattle.jobs.specs.Placings.{clear, first_delay, on_way}
@@ -16,9 +17,9 @@ returns-in-Some g c =
     let from = c.in-Ok.ends.0 in
     let to = c.in-Ok.ends.1 in
     let past = subst (λ x. MessagePast s (jobs p) x from to) c.at.ensures c.in-Ok.ensures.checked in
-    let over : ℕ → ℕ → Option ℕ = λ k l. first_from (λ v. clear (on_way s (record { tasks = take k p.tasks; messages = take l p.messages }) (message_at m v) from to (s.network.route from.core to.core))) from.period 0 in
+    let over : List Task → List Message → Option ℕ = λ k l. first_from (λ v. clear (on_way s (record { tasks = k; messages = l }) (message_at m v) from to (s.network.route from.core to.core))) from.period 0 in
     let found : Some c.in-Some.delay ≡ first_delay s (jobs p) m =
-    delays_are s (jobs p) m from to past _ (c.in-Some.ensures ∙ ap (λ k. over k (p.message_count - 0)) (sub-zero p.task_count) ∙ ap (over p.task_count) (sub-zero p.message_count)) in
+    delays_are s (jobs p) m from to past _ (c.in-Some.ensures ∙ ap (λ k. over k c.held-held.result.now) c.held-tasks.ensures ∙ ap (over (jobs p).tasks) c.held-held.ensures) in
     record { answer = sym (ap (λ r. r.0) (message_goes s (jobs p) m from to past _ found)); room = λ e. c.in-Ok.ensures.room refl }
 
 pub returns-in-None : goal.returns-in-None
@@ -29,7 +30,7 @@ returns-in-None g c =
     let from = c.in-Ok.ends.0 in
     let to = c.in-Ok.ends.1 in
     let past = subst (λ x. MessagePast s (jobs p) x from to) c.at.ensures c.in-Ok.ensures.checked in
-    let over : ℕ → ℕ → Option ℕ = λ k l. first_from (λ v. clear (on_way s (record { tasks = take k p.tasks; messages = take l p.messages }) (message_at m v) from to (s.network.route from.core to.core))) from.period 0 in
+    let over : List Task → List Message → Option ℕ = λ k l. first_from (λ v. clear (on_way s (record { tasks = k; messages = l }) (message_at m v) from to (s.network.route from.core to.core))) from.period 0 in
     let found : None ≡ first_delay s (jobs p) m =
-    delays_are s (jobs p) m from to past _ (c.in-None.ensures ∙ ap (λ k. over k (p.message_count - 0)) (sub-zero p.task_count) ∙ ap (over p.task_count) (sub-zero p.message_count)) in
+    delays_are s (jobs p) m from to past _ (c.in-None.ensures ∙ ap (λ k. over k c.held-held.result.now) c.held-tasks.ensures ∙ ap (over (jobs p).tasks) c.held-held.ensures) in
     record { answer = sym (ap (λ r. r.0) (message_goes s (jobs p) m from to past _ found)); room = search rules }

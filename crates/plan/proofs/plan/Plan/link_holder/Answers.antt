@@ -1,5 +1,4 @@
-use Rattle.std.proofs.Common.{◌≡◌, ℕ, ◌-◌, ◌<◌, leb, map, take, Ok, Option, sym, ap, ◌∙◌, subst, arith}
-use native.Mathlib.Nat.{sub-zero}
+use Rattle.std.proofs.Common.{◌≡◌, ℕ, ◌<◌, leb, map, Ok, Option, sym, ap, ◌∙◌, subst, arith}
 use Rattle.std.proofs.lemmas.Bool.{cond-false, lt-leb}
 use Rattle.jobs.specs.Holding.{HolderIs, holder_among}
 use Rattle.jobs.specs.Meetings.{held_message}
@@ -18,8 +17,8 @@ returns g c =
     let held = map (held_message s (jobs p).tasks) (jobs p).messages in
     let told : c.link_holder.result ≡ holder_among place n held =
     c.link_holder.ensures
-    ∙ ap (λ k. holder_among place n (map (held_message s (take k p.tasks)) (take (p.message_count - 0) p.messages))) (sub-zero p.task_count)
-    ∙ ap (λ k. holder_among place n (map (held_message s (jobs p).tasks) (take k p.messages))) (sub-zero p.message_count) in
+    ∙ ap (λ l. holder_among place n (map (held_message s l) c.held-held.result.now)) c.held-tasks.ensures
+    ∙ ap (λ l. holder_among place n (map (held_message s (jobs p).tasks) l)) c.held-held.ensures in
     let below : c.args.link < s.network.links = omega (arith, c.link_numbers.ensures) in
     record {
       answer = ap Ok told ∙ sym (cond-false (leb s.network.links c.args.link) _ _ (lt-leb s.network.links c.args.link below));

@@ -1,5 +1,4 @@
-use Rattle.std.proofs.Common.{◌≡◌, ◌+◌, ◌-◌, map, take, Some, None, sym, ap, ◌∙◌, subst, rules}
-use native.Mathlib.Nat.{sub-zero}
+use Rattle.std.proofs.Common.{◌≡◌, ◌+◌, ◌-◌, map, Some, None, sym, ap, ◌∙◌, subst, rules}
 use Rattle.holds.specs.Search.{first_from}
 use Rattle.jobs.specs.Meetings.{first_met, held_task}
 use Rattle.jobs.specs.Open.{task_at}
@@ -17,7 +16,7 @@ returns-in-Some g c =
     let s = setting g.F.Fabric.meaning p in
     let past = subst (TaskPast s.network.nodes (jobs p)) c.at.ensures c.in_default.ensures in
     let found : Some c.in-Some.phase ≡ first_phase s (jobs p) t =
-    phases s (jobs p) t past _ (c.in-Some.ensures ∙ ap (λ k. first_from (λ v. clear (first_met (task_takes (task_at t v)) (map held_task (take k p.tasks)))) (t.period + 1 - t.width) 0) (sub-zero p.task_count)) in
+    phases s (jobs p) t past _ (c.in-Some.ensures ∙ ap (λ l. first_from (λ v. clear (first_met (task_takes (task_at t v)) (map held_task l))) (t.period + 1 - t.width) 0) c.held-held.ensures) in
     record { answer = sym (ap (λ r. r.0) (task_goes s (jobs p) t past _ found)); room = λ e. let h = past.room in search rules }
 
 pub returns-in-None : goal.returns-in-None
@@ -27,5 +26,5 @@ returns-in-None g c =
     let s = setting g.F.Fabric.meaning p in
     let past = subst (TaskPast s.network.nodes (jobs p)) c.at.ensures c.in_default.ensures in
     let found : None ≡ first_phase s (jobs p) t =
-    phases s (jobs p) t past _ (c.in-None.ensures ∙ ap (λ k. first_from (λ v. clear (first_met (task_takes (task_at t v)) (map held_task (take k p.tasks)))) (t.period + 1 - t.width) 0) (sub-zero p.task_count)) in
+    phases s (jobs p) t past _ (c.in-None.ensures ∙ ap (λ l. first_from (λ v. clear (first_met (task_takes (task_at t v)) (map held_task l))) (t.period + 1 - t.width) 0) c.held-held.ensures) in
     record { answer = sym (ap (λ r. r.0) (task_goes s (jobs p) t past _ found)); room = search rules }

@@ -1,5 +1,4 @@
-use Rattle.std.proofs.Common.{◌≡◌, take, ℤ, Some, Ok, sym, ap, ◌∙◌, subst, w64, SFits, rules}
-use native.Mathlib.Nat.{sub-zero}
+use Rattle.std.proofs.Common.{◌≡◌, ℤ, Some, Ok, sym, ap, ◌∙◌, subst, w64, SFits, rules}
 use Rattle.std.proofs.lemmas.Int.{to_z-of_z}
 use Rattle.std.specs.Option.{ok_or}
 use Rattle.records.specs.Named.{named}
@@ -19,9 +18,9 @@ returns-in-Some-slack_of g c =
     let f : SFits w64 v = search rules in
     let same = to_z-of_z w64 v f in
     let found : Some c.in-Some.m ≡ named message_name c.args.name (jobs p).messages =
-    c.in-Some.ensures ∙ ap (λ k. named message_name c.args.name (take k p.messages)) (sub-zero p.message_count) in
+    c.in-Some.ensures ∙ ap (named message_name c.args.name) c.held.ensures in
     let told : Some v ≡ slack_among s (jobs p).tasks c.in-Some.m =
-    c.in-Some-slack_of.ensures ∙ ap (λ k. slack_among s (take k p.tasks) c.in-Some.m) (sub-zero p.task_count) in
+    c.in-Some-slack_of.ensures ∙ ap (λ l. slack_among s l c.in-Some.m) c.held-2.ensures in
     let is : slack_held s (jobs p) (named message_name c.args.name (jobs p).messages) ≡ Some v = sym (told ∙ ap (slack_held s (jobs p)) found) in
     record {
       answer = ap Ok same ∙ sym (ap (λ o. ok_or o Unknown) is);

@@ -1,0 +1,7 @@
+-- Tables of records. Assumes nothing.
+use Rattle.std.specs.Prelude.{ℕ, List, take}
+use Rattle.records.specs.declared.tables.Table.{Table}
+
+-- the records held: the front of the places
+abbrev pub held : {R : Type 0} {N : ℕ} → Table R N → List R
+held t = take t.count t.places
