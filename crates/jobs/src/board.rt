@@ -5,6 +5,7 @@ ghost use Rattle.std.specs.Prelude.{◌≡◌};
 use records::named::pick;
 use records::record::{Message, Task};
 
+#[derive(Drop)]
 pub struct Board<'a, F> {
     pub fabric: &'a F,
     pub tasks: &'a [Task],

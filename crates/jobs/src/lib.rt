@@ -12,7 +12,7 @@ mod meeting;
 pub mod message;
 pub mod open;
 mod packets;
-mod place;
+pub mod place;
 mod placing;
 mod stay;
 pub mod task;

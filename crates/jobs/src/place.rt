@@ -4,7 +4,7 @@ ghost use Rattle.std.specs.Prelude.{◌≡◌};
 
 // A core, which is taken by tasks, or a link, which is taken by packets, by its number.
 #[derive(Clone, Copy, PartialEq, Eq, Debug)]
-pub(crate) enum Place {
+pub enum Place {
     Core(u16),
     Link(u16),
 }

@@ -4,7 +4,8 @@ use Rattle.std.proofs.lemmas.Bool.{and_from, and_parts}
 use Rattle.listed.specs.declared.faults.SetFault.TheVariants.{Link, Route, Chain, Order}
 use Rattle.records.specs.declared.record.Route.{Route as RouteRecord}
 use Rattle.listed.specs.Records.{link_count, link_at, link_good, route_count, route_at, route_prior, route_shape, route_names, route_leads, route_above, route_good}
-use Rattle.listed.specs.Setting.{either, checked, first_fault, link_fault, record_fault, route_fault, links_fault, routes_fault}
+use Rattle.refusals.specs.Told.{checked}
+use Rattle.listed.specs.Setting.{either, first_fault, link_fault, record_fault, route_fault, links_fault, routes_fault}
 
 module _ {E : Type 0} (f : ℕ → Option E) where
   -- one turn of a walk over n records

@@ -1,6 +1,6 @@
 -- What setting a listed fabric from a file reads: the head, the links and the routes, or the first fault. Assumes nothing.
 --   Setting, network           what a listed fabric is made of, and what it means; alone: how it begins
---   within, then, unless       one part after the other, up to the first fault; checked: a check as an answer
+--   within, then, unless       one part after the other, up to the first fault
 --   either, first_fault        the first fault among records
 --   listed_head                the head of a listed fabric
 --   section_read               a section of at most so many records
@@ -54,11 +54,6 @@ then (Err e) f = Err e
 abbrev pub unless : {T E : Type 0} → Option E → Result T E → Result T E
 unless None r = r
 unless (Some e) r = Err e
-
--- a check passes where nothing was found wrong
-abbrev pub checked : {E : Type 0} → Option E → Result (Unit {0}) E
-checked None = Ok tt
-checked (Some e) = Err e
 
 -- the first of two faults
 abbrev pub either : {E : Type 0} → Option E → Option E → Option E

@@ -1,7 +1,8 @@
 // The checks of link and route records: each finds the first record with a fault.
 ghost use Rattle.std.specs.Prelude.{◌≡◌, ◌≤◌, true};
 ghost use Rattle.listed.specs.Records.{link_good, chain_good, once_good, all_below, route_shape, route_names, route_leads, route_above, route_prior};
-ghost use Rattle.listed.specs.Setting.{links_fault, link_fault, route_fault, routes_fault, checked};
+ghost use Rattle.listed.specs.Setting.{links_fault, link_fault, route_fault, routes_fault};
+ghost use Rattle.refusals.specs.Told.{checked};
 
 use super::SetFault;
 use records::record::{Link, Route};

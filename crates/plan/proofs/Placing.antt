@@ -1,6 +1,6 @@
 -- Past the checks that leave phase and delay out, a value is taken exactly where it is neither late nor meets anything.
 use Rattle.std.proofs.Common.{◌≡◌, ℕ, ◌+◌, ◌-◌, ◌<◌, not, leb, map, length, Some, None, Err, Option, sym, refl, ap, ◌∙◌, arith}
-use Rattle.std.specs.Option.{option_map}
+use Rattle.std.specs.Option.{ok_or, option_map}
 use Rattle.std.proofs.lemmas.Bool.{cond-false, lt-leb}
 use Rattle.std.proofs.lemmas.Bool.Decides.{nat_tests}
 use Rattle.holds.specs.Search.{first_from}
@@ -9,6 +9,8 @@ use Rattle.jobs.specs.declared.fault.TaskFault.{TaskFault}
 use Rattle.jobs.specs.declared.fault.TaskFault.TheVariants as task_fault
 use Rattle.jobs.specs.declared.fault.MessageFault.{MessageFault}
 use Rattle.jobs.specs.declared.fault.MessagePlacingFault.{MessagePlacingFault}
+use Rattle.jobs.specs.declared.fault.MessagePlacingFault.TheVariants as message_placing
+use Rattle.jobs.specs.declared.fault.TaskPlacingFault.TheVariants as task_placing
 use Rattle.jobs.specs.declared.fault.TaskPlacingFault.{TaskPlacingFault}
 use Rattle.jobs.specs.declared.open.OpenTask.{OpenTask}
 use Rattle.jobs.specs.declared.open.OpenMessage.{OpenMessage}
@@ -93,3 +95,12 @@ pub message_stays : (js : Jobs) (m : OpenMessage) (c : Option MessageFault) (o :
 message_stays js m (Some x) o e is = refl
 message_stays js m None None e is = refl
 message_stays js m None (Some v) e is = let z : ◌≡◌ {A = ℕ} 0 1 = cc in absurd (omega arith)
+
+-- past the checks a placing answers the value, or that none fits
+pub task_answers : (js : Jobs) (t : OpenTask) (o : Option ℕ) → (task_placed js t None o).0 ≡ ok_or o task_placing.NoFit
+task_answers js t None = refl
+task_answers js t (Some v) = refl
+
+pub message_answers : (js : Jobs) (m : OpenMessage) (o : Option ℕ) → (message_placed js m None o).0 ≡ ok_or o message_placing.NoFit
+message_answers js m None = refl
+message_answers js m (Some v) = refl

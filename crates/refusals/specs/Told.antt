@@ -21,3 +21,8 @@ buffer_told e = plain 27
 abbrev pub refusal_of : {T E X : Type 0} → (E → X) → Result T E → Option X
 refusal_of tell (Ok x) = None
 refusal_of tell (Err e) = Some (tell e)
+
+-- a check passes where nothing was found wrong
+abbrev pub checked : {E : Type 0} → Option E → Result (Unit {0}) E
+checked None = Ok tt
+checked (Some e) = Err e

@@ -1,5 +1,6 @@
 // New plans, and the offers of tasks and messages.
 ghost use Rattle.std.specs.Prelude.{◌≡◌, ℕ, ◌<◌, true, false, List, length, is_ok, Some, None, Option, MatchResult};
+ghost use Rattle.jobs.specs.Boards.{held_on, setting_of};
 ghost use Rattle.jobs.specs.Jobs.{nothing, with_message, with_task};
 ghost use Rattle.jobs.specs.Numbers.{message_told, task_told};
 ghost use Rattle.jobs.specs.Checks.{message_checks, routed_checks, task_checks};
@@ -10,15 +11,16 @@ ghost use Rattle.jobs.specs.declared.fault.MessageFault.{MessageFault as Message
 ghost use Rattle.jobs.specs.declared.fault.TaskFault.{TaskFault as TaskFaultOf};
 ghost use Rattle.records.specs.declared.record.Task.{Task as TaskOf};
 ghost use Rattle.plan.specs.Held.{jobs, setting};
-ghost use Rattle.refusals.specs.Told.{refusal_of};
+ghost use Rattle.refusals.specs.Told.{checked, refusal_of};
 
 use super::Plan;
 use fabric::Fabric;
+use jobs::board::{Board, Ends};
 use jobs::fault::{MessageFault, TaskFault};
-use jobs::message::{first_packet_meeting, late_by, way_between};
-use jobs::task::first_task_meeting;
+use jobs::message::late_by;
+use jobs::way::Way;
 use jobs::{message, task};
-use records::named::{find, pick};
+use records::named::find;
 use records::record::{Message, Task};
 use records::tables::Table;
 
@@ -31,6 +33,18 @@ impl<'f, F: Fabric> Plan<'f, F> {
             fabric,
             tasks: Table::new([Task::EMPTY; 64]),
             messages: Table::new([Message::EMPTY; 128]),
+        }
+    }
+
+    // What an offer or a question is about.
+    pub(super) fn board(&self) -> Board<'_, F>
+        ensures over { setting_of F.Fabric.meaning result ≡ setting F.Fabric.meaning self.now }
+        ensures held { held_on result ≡ jobs self.now }
+    {
+        Board {
+            fabric: self.fabric,
+            tasks: self.tasks.held(),
+            messages: self.messages.held(),
         }
     }
 
@@ -54,17 +68,15 @@ impl<'f, F: Fabric> Plan<'f, F> {
         Ok(())
     }
 
-    // The first check that refuses a task.
-    fn task_refusal(&self, t: &Task) -> Option<TaskFault>
-        ensures answer { result ≡ task_refusal (setting F.Fabric.meaning self.now).network.nodes (jobs self.now) t.now }
-        ensures room { result ≡ None → length (jobs self.now).tasks < 64 }
+    // A task, by all of its checks in order.
+    fn check_task(&self, t: &Task) -> Result<(), TaskFault>
+        ensures answer { result ≡ checked (task_refusal (setting F.Fabric.meaning self.now).network.nodes (jobs self.now) t.now) }
+        ensures room { is_ok result ≡ true → length (jobs self.now).tasks < 64 }
     {
-        if let Err(fault) = self.task_checks(t) {
-            return Some(fault);
-        }
-        match first_task_meeting(self.tasks.held(), t) {
-            Some(meeting) => Some(TaskFault::Meets(meeting)),
-            None => None,
+        self.task_checks(t)?;
+        match self.board().first_task_meeting(t) {
+            Some(meeting) => Err(TaskFault::Meets(meeting)),
+            None => Ok(()),
         }
     }
 
@@ -85,97 +97,81 @@ impl<'f, F: Fabric> Plan<'f, F> {
         ensures fabric { self.new.fabric ≡ self.old.fabric }
         ensures refused { is_ok result ≡ false → self.new ≡ self.old }
     {
-        if let Some(fault) = self.task_refusal(&t) {
-            return Err(fault);
-        }
+        self.check_task(&t)?;
         self.hold_task(t);
         Ok(())
     }
 
     // The checks of a message up to its times: its source and destination, where it passes them.
-    fn message_ends(&self, m: &Message) -> Result<(Task, Task), MessageFault>
-        ensures { MatchResult result (λ p. EndsPast (jobs self.now) m.now p.0 p.1) (λ e. (rest : TaskOf → TaskOf → List ℕ → Option MessageFaultOf) → message_checks (setting F.Fabric.meaning self.now) (jobs self.now) m.now rest ≡ Some e) }
+    fn message_ends(&self, m: &Message) -> Result<Ends, MessageFault>
+        ensures { MatchResult result (λ p. EndsPast (jobs self.now) m.now p.source p.destination) (λ e. (rest : TaskOf → TaskOf → List ℕ → Option MessageFaultOf) → message_checks (setting F.Fabric.meaning self.now) (jobs self.now) m.now rest ≡ Some e) }
     {
         if m.name == 0 || find(self.messages.held(), m.name).is_some() {
             return Err(MessageFault::Name);
         }
-        let tasks = self.tasks.held();
-        let Some(source) = pick(tasks, m.source) else {
-            return Err(MessageFault::Ends);
-        };
-        let Some(destination) = pick(tasks, m.destination) else {
-            return Err(MessageFault::Ends);
-        };
-        if !message::timely(&source, m) {
+        let ends = self.board().ends(m).ok_or(MessageFault::Ends)?;
+        if !message::timely(&ends.source, m) {
             return Err(MessageFault::Times);
         }
-        Ok((source, destination))
+        Ok(ends)
     }
 
     // The checks of a message that come before lateness and meetings: its source and destination, where it passes them.
-    pub(super) fn message_checks(&self, m: &Message) -> Result<(Task, Task), MessageFault>
+    pub(super) fn message_checks(&self, m: &Message) -> Result<Ends, MessageFault>
         ensures room { is_ok result ≡ true → length (jobs self.now).messages < 128 }
-        ensures checked { MatchResult result (λ p. MessagePast (setting F.Fabric.meaning self.now) (jobs self.now) m.now p.0 p.1) (λ e. (rest : TaskOf → TaskOf → List ℕ → Option MessageFaultOf) → message_checks (setting F.Fabric.meaning self.now) (jobs self.now) m.now rest ≡ Some e) }
+        ensures checked { MatchResult result (λ p. MessagePast (setting F.Fabric.meaning self.now) (jobs self.now) m.now p.source p.destination) (λ e. (rest : TaskOf → TaskOf → List ℕ → Option MessageFaultOf) → message_checks (setting F.Fabric.meaning self.now) (jobs self.now) m.now rest ≡ Some e) }
     {
-        let (source, destination) = self.message_ends(m)?;
-        self.route_checks(&source, &destination)?;
-        Ok((source, destination))
+        let ends = self.message_ends(m)?;
+        self.route_checks(&ends)?;
+        Ok(ends)
     }
 
     // The checks of the route and the room.
-    fn route_checks(&self, source: &Task, destination: &Task) -> Result<(), MessageFault>
+    fn route_checks(&self, ends: &Ends) -> Result<(), MessageFault>
         ensures room { is_ok result ≡ true → length (jobs self.now).messages < 128 }
-        ensures checked { MatchResult result (λ _. RoutePast (setting F.Fabric.meaning self.now) (jobs self.now) source.now destination.now) (λ e. (rest : List ℕ → Option MessageFaultOf) → routed_checks (jobs self.now) ((setting F.Fabric.meaning self.now).network.route source.now.core destination.now.core) rest ≡ Some e) }
+        ensures checked { MatchResult result (λ _. RoutePast (setting F.Fabric.meaning self.now) (jobs self.now) ends.now.source ends.now.destination) (λ e. (rest : List ℕ → Option MessageFaultOf) → routed_checks (jobs self.now) ((setting F.Fabric.meaning self.now).network.route ends.now.source.core ends.now.destination.core) rest ≡ Some e) }
     {
-        let from = source.core as usize;
-        let to = destination.core as usize;
-        let Some(_) = self.fabric.route_len(from, to) else {
-            return Err(MessageFault::NoRoute);
-        };
+        let from = ends.source.core as usize;
+        let to = ends.destination.core as usize;
+        self.fabric
+            .route_len(from, to)
+            .ok_or(MessageFault::NoRoute)?;
         if self.messages.is_full() {
             return Err(MessageFault::Full);
         }
         Ok(())
     }
 
-    // What refuses a message between two tasks past those checks.
-    fn packet_refusal(&self, source: &Task, destination: &Task, m: &Message) -> Option<MessageFault>
-        ensures { result ≡ on_way (setting F.Fabric.meaning self.now) (jobs self.now) m.now source.now destination.now ((setting F.Fabric.meaning self.now).network.route source.now.core destination.now.core) }
+    // The packets of a message between two tasks past those checks: neither late nor met.
+    fn check_packets(&self, ends: &Ends, m: &Message) -> Result<(), MessageFault>
+        ensures { result ≡ checked (on_way (setting F.Fabric.meaning self.now) (jobs self.now) m.now ends.now.source ends.now.destination ((setting F.Fabric.meaning self.now).network.route ends.now.source.core ends.now.destination.core)) }
     {
-        let tasks = self.tasks.held();
-        let held = self.messages.held();
-        let Some(way) = way_between(self.fabric, source, destination, m) else {
-            return Some(MessageFault::NoRoute);
-        };
-        if let Some(slack) = late_by(&way, destination, m) {
-            return Some(MessageFault::Late(slack));
+        let way = Way::between(self.fabric, ends, m).ok_or(MessageFault::NoRoute)?;
+        if let Some(slack) = late_by(&way, &ends.destination, m) {
+            return Err(MessageFault::Late(slack));
         }
-        match first_packet_meeting(self.fabric, tasks, held, &way) {
-            Some(meeting) => Some(MessageFault::Meets(meeting)),
-            None => None,
+        match self.board().first_packet_meeting(&way) {
+            Some(meeting) => Err(MessageFault::Meets(meeting)),
+            None => Ok(()),
         }
     }
 
-    // The first check past the limits that refuses a message between two held tasks.
-    fn way_refusal(&self, source: &Task, destination: &Task, m: &Message) -> Option<MessageFault>
-        ensures room { result ≡ None → length (jobs self.now).messages < 128 }
-        ensures answer { result ≡ routed_refusal (setting F.Fabric.meaning self.now) (jobs self.now) m.now source.now destination.now ((setting F.Fabric.meaning self.now).network.route source.now.core destination.now.core) }
+    // A message between two held tasks, by its checks past the limits.
+    fn check_way(&self, ends: &Ends, m: &Message) -> Result<(), MessageFault>
+        ensures room { is_ok result ≡ true → length (jobs self.now).messages < 128 }
+        ensures answer { result ≡ checked (routed_refusal (setting F.Fabric.meaning self.now) (jobs self.now) m.now ends.now.source ends.now.destination ((setting F.Fabric.meaning self.now).network.route ends.now.source.core ends.now.destination.core)) }
     {
-        match self.route_checks(source, destination) {
-            Ok(()) => self.packet_refusal(source, destination, m),
-            Err(fault) => Some(fault),
-        }
+        self.route_checks(ends)?;
+        self.check_packets(ends, m)
     }
 
-    // The first check that refuses a message.
-    fn message_refusal(&self, m: &Message) -> Option<MessageFault>
-        ensures room { result ≡ None → length (jobs self.now).messages < 128 }
-        ensures answer { result ≡ message_refusal (setting F.Fabric.meaning self.now) (jobs self.now) m.now }
+    // A message, by all of its checks in order.
+    fn check_message(&self, m: &Message) -> Result<(), MessageFault>
+        ensures room { is_ok result ≡ true → length (jobs self.now).messages < 128 }
+        ensures answer { result ≡ checked (message_refusal (setting F.Fabric.meaning self.now) (jobs self.now) m.now) }
     {
-        match self.message_ends(m) {
-            Ok((source, destination)) => self.way_refusal(&source, &destination, m),
-            Err(fault) => Some(fault),
-        }
+        let ends = self.message_ends(m)?;
+        self.check_way(&ends, m)
     }
 
     // One message more: there is room, so the insertion is not refused.
@@ -195,9 +191,7 @@ impl<'f, F: Fabric> Plan<'f, F> {
         ensures fabric { self.new.fabric ≡ self.old.fabric }
         ensures refused { is_ok result ≡ false → self.new ≡ self.old }
     {
-        if let Some(fault) = self.message_refusal(&m) {
-            return Err(fault);
-        }
+        self.check_message(&m)?;
         self.hold_message(m);
         Ok(())
     }

@@ -9,7 +9,6 @@ use super::Plan;
 use fabric::Fabric;
 use jobs::fault::{MessagePlacingFault, TaskPlacingFault};
 use jobs::open::{OpenMessage, OpenTask};
-use jobs::placing::{first_delay, first_phase};
 
 impl<'f, F: Fabric> Plan<'f, F> {
     // The smallest phase that an offer of the task would be taken with.
@@ -17,14 +16,8 @@ impl<'f, F: Fabric> Plan<'f, F> {
         ensures answer { result ≡ (place_task (setting F.Fabric.meaning self.now) (jobs self.now) t.now).0 }
         ensures room { is_ok result ≡ true → length (jobs self.now).tasks < 64 }
     {
-        let held = self.tasks.held();
-        if let Err(fault) = self.task_checks(&t.at(0)) {
-            return Err(TaskPlacingFault::Offer(fault));
-        }
-        match first_phase(held, t) {
-            Some(phase) => Ok(phase),
-            None => Err(TaskPlacingFault::NoFit),
-        }
+        self.task_checks(&t.at(0)).map_err(TaskPlacingFault::Offer)?;
+        self.board().first_phase(t).ok_or(TaskPlacingFault::NoFit)
     }
 
     // Holds the task with the smallest phase that an offer would be taken with, and answers that phase.
@@ -35,13 +28,9 @@ impl<'f, F: Fabric> Plan<'f, F> {
         ensures fabric { self.new.fabric ≡ self.old.fabric }
         ensures refused { is_ok result ≡ false → self.new ≡ self.old }
     {
-        match self.phase_for(&t) {
-            Ok(phase) => {
-                self.hold_task(t.at(phase));
-                Ok(phase)
-            }
-            Err(fault) => Err(fault),
-        }
+        let phase = self.phase_for(&t)?;
+        self.hold_task(t.at(phase));
+        Ok(phase)
     }
 
     // The smallest delay that an offer of the message would be taken with.
@@ -49,16 +38,12 @@ impl<'f, F: Fabric> Plan<'f, F> {
         ensures answer { result ≡ (place_message (setting F.Fabric.meaning self.now) (jobs self.now) m.now).0 }
         ensures room { is_ok result ≡ true → length (jobs self.now).messages < 128 }
     {
-        let tasks = self.tasks.held();
-        let held = self.messages.held();
-        let (source, destination) = match self.message_checks(&m.at(0)) {
-            Ok(ends) => ends,
-            Err(fault) => return Err(MessagePlacingFault::Offer(fault)),
-        };
-        match first_delay(self.fabric, tasks, held, &source, &destination, m) {
-            Some(delay) => Ok(delay),
-            None => Err(MessagePlacingFault::NoFit),
-        }
+        let ends = self
+            .message_checks(&m.at(0))
+            .map_err(MessagePlacingFault::Offer)?;
+        self.board()
+            .first_delay(&ends, m)
+            .ok_or(MessagePlacingFault::NoFit)
     }
 
     // Holds the message with the smallest delay that an offer would be taken with, and answers that delay.
@@ -69,12 +54,8 @@ impl<'f, F: Fabric> Plan<'f, F> {
         ensures fabric { self.new.fabric ≡ self.old.fabric }
         ensures refused { is_ok result ≡ false → self.new ≡ self.old }
     {
-        match self.delay_for(&m) {
-            Ok(delay) => {
-                self.hold_message(m.at(delay));
-                Ok(delay)
-            }
-            Err(fault) => Err(fault),
-        }
+        let delay = self.delay_for(&m)?;
+        self.hold_message(m.at(delay));
+        Ok(delay)
     }
 }

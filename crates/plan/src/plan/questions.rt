@@ -7,8 +7,6 @@ ghost use Rattle.std.specs.Prelude.{◌≡◌, IfOk};
 use super::Plan;
 use fabric::Fabric;
 use jobs::fault::{DropFault, PlaceFault};
-use jobs::holder::{core_holder, link_holder};
-use jobs::message::slack_of;
 use records::named::pick;
 
 impl<'f, F: Fabric> Plan<'f, F> {
@@ -17,14 +15,10 @@ impl<'f, F: Fabric> Plan<'f, F> {
         ensures answer { result ≡ slack (setting F.Fabric.meaning self.now) (jobs self.now) name }
         ensures least { IfOk result (HeldSlack (setting F.Fabric.meaning self.now) (jobs self.now) name) }
     {
-        let Some(m) = pick(self.messages.held(), name) else {
-            return Err(DropFault::Unknown);
-        };
-        match slack_of(self.fabric, self.tasks.held(), &m) {
-            Some(slack) => Ok(slack),
-            None => Err(DropFault::Unknown),
-        }
+        let m = pick(self.messages.held(), name).ok_or(DropFault::Unknown)?;
+        self.board().slack_of(&m).ok_or(DropFault::Unknown)
     }
+
     // Who holds a core at an instant: the task's name and its run, or none.
     pub fn core_holder(&self, core: u16, instant: u64) -> Result<Option<(u16, u64)>, PlaceFault>
         ensures answer { result ≡ core_holder (setting F.Fabric.meaning self.now) (jobs self.now) core instant }
@@ -33,7 +27,7 @@ impl<'f, F: Fabric> Plan<'f, F> {
         if core as usize >= self.fabric.nodes() {
             return Err(PlaceFault);
         }
-        Ok(core_holder(self.tasks.held(), core, instant))
+        Ok(self.board().core_holder(core, instant))
     }
 
     // Who holds a link at an instant: the message's name and its packet, or none.
@@ -44,8 +38,6 @@ impl<'f, F: Fabric> Plan<'f, F> {
         if link as usize >= self.fabric.link_numbers() {
             return Err(PlaceFault);
         }
-        let tasks = self.tasks.held();
-        let held = self.messages.held();
-        Ok(link_holder(self.fabric, tasks, held, link, instant))
+        Ok(self.board().link_holder(link, instant))
     }
 }

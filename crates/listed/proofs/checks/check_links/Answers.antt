@@ -1,5 +1,6 @@
 use Rattle.std.proofs.Common.{◌≡◌, ◌/◌, length, Ok, Err, sym, ◌∙◌, rules}
-use Rattle.listed.specs.Setting.{checked, link_fault}
+use Rattle.refusals.specs.Told.{checked}
+use Rattle.listed.specs.Setting.{link_fault}
 use Rattle.listed.proofs.Firsts.{check_here, check_pass}
 use Rattle.listed.proofs.checks.check_links.Goals as goal
 

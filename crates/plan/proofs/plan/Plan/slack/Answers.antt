@@ -1,28 +1,26 @@
-use Rattle.std.proofs.Common.{◌≡◌, ℤ, Some, Ok, sym, ap, ◌∙◌, subst, w64, SFits, rules}
-use Rattle.std.proofs.lemmas.Int.{to_z-of_z}
+use Rattle.std.proofs.Common.{◌≡◌, ℤ, ℕ, Some, None, Option, IfOk, sym, ap, ◌∙◌, subst, rules}
 use Rattle.std.specs.Option.{ok_or}
 use Rattle.records.specs.Named.{named}
-use Rattle.jobs.specs.Jobs.{message_name}
+use Rattle.jobs.specs.Jobs.{Jobs, Setting, message_name}
 use Rattle.jobs.specs.Slacks.{HeldSlack, slack_among, slack_held}
 use Rattle.jobs.specs.declared.fault.DropFault.TheVariants.{Unknown}
 use Rattle.jobs.proofs.Slacks.{held_slack}
 use Rattle.plan.specs.Held.{jobs, setting}
 use Rattle.plan.proofs.plan.Plan.slack.Goals as goal
 
+-- a slack that is told is that of some packet, and no packet's is less
+least : (s : Setting) (js : Jobs) (name : ℕ) (o : Option ℤ) → slack_held s js (named message_name name js.messages) ≡ o → IfOk (ok_or o Unknown) (HeldSlack s js name)
+least s js name None is = tt
+least s js name (Some v) is = held_slack s js name v is
+
 -- what the message's own slack is, is the held message's
-pub returns-in-Some-slack_of : goal.returns-in-Some-slack_of
-returns-in-Some-slack_of g c =
+pub returns-clause-least : goal.returns-clause-least
+returns-clause-least g c =
     let p = c.args.self.now in
     let s = setting g.F.Fabric.meaning p in
-    let v = c.in-Some-slack_of.slack in
-    let f : SFits w64 v = search rules in
-    let same = to_z-of_z w64 v f in
-    let found : Some c.in-Some.m ≡ named message_name c.args.name (jobs p).messages =
-    c.in-Some.ensures ∙ ap (named message_name c.args.name) c.held.ensures in
-    let told : Some v ≡ slack_among s (jobs p).tasks c.in-Some.m =
-    c.in-Some-slack_of.ensures ∙ ap (λ l. slack_among s l c.in-Some.m) c.held-2.ensures in
-    let is : slack_held s (jobs p) (named message_name c.args.name (jobs p).messages) ≡ Some v = sym (told ∙ ap (slack_held s (jobs p)) found) in
-    record {
-      answer = ap Ok same ∙ sym (ap (λ o. ok_or o Unknown) is);
-      least = subst (λ (z : ℤ). HeldSlack s (jobs p) c.args.name z) (sym same) (held_slack s (jobs p) c.args.name v is);
-    }
+    let m = c.in_ok-m.m in
+    let found : named message_name c.args.name (jobs p).messages ≡ Some m = search rules in
+    let told : c.slack_of.result ≡ slack_among s (jobs p).tasks m =
+    c.slack_of.ensures ∙ ap (λ x. slack_among x c.board.result.tasks.now m) c.board.ensures.over ∙ ap (λ js. slack_among s js.tasks m) c.board.ensures.held in
+    let is : slack_held s (jobs p) (named message_name c.args.name (jobs p).messages) ≡ c.slack_of.result = ap (slack_held s (jobs p)) found ∙ sym told in
+    subst (λ r. IfOk r (HeldSlack s (jobs p) c.args.name)) (sym c.ok_or-2.ensures.value) (least s (jobs p) c.args.name c.slack_of.result is)
