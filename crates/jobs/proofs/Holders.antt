@@ -11,7 +11,8 @@ use Rattle.records.specs.declared.record.Message.{Message}
 use Rattle.jobs.specs.Holding.{Has, HolderIs, Holding, first_run, holder_among, or_else, run_of, run_on, with_name}
 use Rattle.jobs.specs.Jobs.{Setting, task_named}
 use Rattle.jobs.specs.Meetings.{HeldJob, held_message, held_task}
-use Rattle.jobs.specs.Takes.{Place, Take, along, between, on_route, same_place}
+use Rattle.jobs.specs.declared.place.Place.{Place}
+use Rattle.jobs.specs.Takes.{Take, along, between, on_route, same_place}
 
 -- ---- the run of one hold
 

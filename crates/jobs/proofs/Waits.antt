@@ -18,7 +18,8 @@ use Rattle.jobs.specs.declared.stay.Stay.{Stay}
 use Rattle.jobs.specs.Meetings.{HeldJob, all_meetings, at_instant, before, earliest_from, first_met, meetings, met, sooner}
 use Rattle.jobs.specs.Open.{task_at}
 use Rattle.jobs.specs.Placings.{clear}
-use Rattle.jobs.specs.Takes.{Place, Take, along, core, link_take, same_place, task_takes}
+use Rattle.jobs.specs.declared.place.Place.{Place}
+use Rattle.jobs.specs.Takes.{Take, along, core, link_take, same_place, task_takes}
 use Rattle.jobs.specs.Waits.{Among, StillMeets, StillMet, put_off}
 use Rattle.jobs.specs.Boards.{job_of}
 use Rattle.jobs.specs.Ways.{stay_take}

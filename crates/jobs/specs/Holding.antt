@@ -6,7 +6,8 @@ use Rattle.holds.specs.Span.{HoldsAt, Span}
 use Rattle.jobs.specs.declared.fault.PlaceFault.{PlaceFault}
 use Rattle.jobs.specs.Jobs.{Setting, Jobs}
 use Rattle.jobs.specs.Meetings.{HeldJob, held_message, held_task}
-use Rattle.jobs.specs.Takes.{Place, Take, core, link, same_place}
+use Rattle.jobs.specs.declared.place.Place.{Place}
+use Rattle.jobs.specs.Takes.{Take, core, link, same_place}
 
 -- the run of a hold at an instant
 abbrev pub run_of : ℕ → Option Span → Option ℕ

@@ -7,7 +7,8 @@ use Rattle.records.specs.declared.record.Task.{Task}
 use Rattle.records.specs.declared.record.Message.{Message}
 use Rattle.jobs.specs.declared.fault.Meeting.{Meeting}
 use Rattle.jobs.specs.Jobs.{Setting}
-use Rattle.jobs.specs.Takes.{Place, number, same_place, Take, task_takes, message_takes}
+use Rattle.jobs.specs.declared.place.Place.{Place}
+use Rattle.jobs.specs.Takes.{number, same_place, Take, task_takes, message_takes}
 use Rattle.std.specs.List.{fold}
 
 -- the first instant of all time that lies in both holds

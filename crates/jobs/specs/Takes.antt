@@ -5,19 +5,25 @@ use Rattle.holds.specs.Held.{spanned}
 use Rattle.records.specs.declared.record.Task.{Task}
 use Rattle.records.specs.declared.record.Message.{Message}
 use Rattle.jobs.specs.Jobs.{Setting, task_named}
-pub use Rattle.jobs.specs.declared.place.Place.{Place}
-pub use Rattle.jobs.specs.declared.place.Place.TheVariants.{Core as core, Link as link}
+use Rattle.jobs.specs.declared.place.Place.{Place}
+use Rattle.jobs.specs.declared.place.Place.TheVariants.{Core, Link}
 
--- the number of a core or a link
+-- a core or a link, by its number
+abbrev pub core : ℕ → Place
+core n = Core n
+
+abbrev pub link : ℕ → Place
+link n = Link n
+
 abbrev pub number : Place → ℕ
-number (core n) = n
-number (link n) = n
+number (Core n) = n
+number (Link n) = n
 
 abbrev pub same_place : Place → Place → Bool
-same_place (core a) (core b) = a == b
-same_place (core a) (link b) = false
-same_place (link a) (core b) = false
-same_place (link a) (link b) = a == b
+same_place (Core a) (Core b) = a == b
+same_place (Core a) (Link b) = false
+same_place (Link a) (Core b) = false
+same_place (Link a) (Link b) = a == b
 
 -- a periodic hold of one place; none where the numbers are no hold's
 pub record Take : Type 0 where

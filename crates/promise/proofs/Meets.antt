@@ -15,7 +15,9 @@ use Rattle.records.specs.declared.record.Message.{Message}
 use Rattle.jobs.specs.declared.fault.Meeting.{Meeting}
 use Rattle.jobs.specs.Jobs.{Setting, task_named}
 use Rattle.jobs.specs.Meetings.{HeldJob, at_instant, held_message, held_task, met, shared}
-use Rattle.jobs.specs.Takes.{Place, Take, along, between, core, leaves, link, message_takes, number, on_route, packet_takes, same_place, task_take, task_takes}
+use Rattle.jobs.specs.declared.place.Place.{Place}
+use Rattle.jobs.specs.declared.place.Place.TheVariants.{Core, Link}
+use Rattle.jobs.specs.Takes.{Take, along, between, core, leaves, link, message_takes, number, on_route, packet_takes, same_place, task_take, task_takes}
 use Rattle.promise.specs.Clean.{In}
 use Rattle.promise.proofs.Lists.{in_cases, in_nil, map_in}
 
@@ -88,14 +90,14 @@ messages_sound g ts ms = held_sound (held_message g ts) (message_takes_sound g t
 -- ---- the meeting of two takes
 
 pub same_place_true : (p q : Place) → same_place p q ≡ true → p ≡ q
-same_place_true (core a) (core b) e = ap core (eqb-true a b e)
-same_place_true (core a) (link b) e = let z : ◌≡◌ {A = ℕ} 0 1 = cc in absurd (omega arith)
-same_place_true (link a) (core b) e = let z : ◌≡◌ {A = ℕ} 0 1 = cc in absurd (omega arith)
-same_place_true (link a) (link b) e = ap link (eqb-true a b e)
+same_place_true (Core a) (Core b) e = ap core (eqb-true a b e)
+same_place_true (Core a) (Link b) e = let z : ◌≡◌ {A = ℕ} 0 1 = cc in absurd (omega arith)
+same_place_true (Link a) (Core b) e = let z : ◌≡◌ {A = ℕ} 0 1 = cc in absurd (omega arith)
+same_place_true (Link a) (Link b) e = ap link (eqb-true a b e)
 
 pub same_place_refl : (p : Place) → same_place p p ≡ true
-same_place_refl (core a) = eq-eqb a a refl
-same_place_refl (link a) = eq-eqb a a refl
+same_place_refl (Core a) = eq-eqb a a refl
+same_place_refl (Link a) = eq-eqb a a refl
 
 -- an option that a function was put on comes from one
 mapped_some : {A B : Type 0} (f : A → B) (o : Option A) (b : B) → option_map f o ≡ Some b → (a : A) × (o ≡ Some a) × (f a ≡ b)

@@ -17,7 +17,8 @@ use Rattle.jobs.specs.Meetings.{HeldJob, held_message, held_task}
 use Rattle.jobs.specs.Reading.{arrival, due}
 use Rattle.jobs.specs.Rules.{message_timely, task_timely}
 use Rattle.jobs.specs.Slacks.{routed_slack, slack, slack_among, slack_between, slack_held}
-use Rattle.jobs.specs.Takes.{Place, Take, between, core, leaves, link, link_take, message_takes, number, packet_takes, same_place, task_span, task_take}
+use Rattle.jobs.specs.declared.place.Place.{Place}
+use Rattle.jobs.specs.Takes.{Take, between, core, leaves, link, link_take, message_takes, number, packet_takes, same_place, task_span, task_take}
 use Rattle.jobs.proofs.Holders.{holder_is, messages_fit, tasks_fit}
 use Rattle.jobs.proofs.Limits.{slack_formula, task_holds}
 use Rattle.jobs.proofs.Slacks.{held_slack}
