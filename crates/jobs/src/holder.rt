@@ -43,7 +43,7 @@ pub fn core_holder(held: &[Task], place: u16, instant: u64) -> Option<(u16, u64)
 fn packet_there<F: Fabric>(fabric: &F, way: &Way, number: u16, instant: u64) -> Option<u64>
     ensures { result ≡ first_run (link number) instant (way_takes (over F.Fabric.meaning fabric.now) way.now) }
 {
-    for place in 0..F::reach() {
+    for place in 0..F::longest() {
         if let Some(stay) = stay_on(fabric, way, place) {
             if let Some(run) = run_there(number, instant, &stay) {
                 return Some(run);

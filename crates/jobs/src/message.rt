@@ -75,7 +75,7 @@ fn nearest_to<F: Fabric>(
     ensures { result ≡ earliest_from best (map (met name (stay_take link own.now)) (way_takes (over F.Fabric.meaning fabric.now) held.now)) }
 {
     let mut best = best;
-    for place in 0..F::reach() {
+    for place in 0..F::longest() {
         if let Some(stay) = stay_on(fabric, held, place) {
             best = earlier(best, meeting_at(name, own, &stay));
         }
@@ -94,7 +94,7 @@ fn nearest<F: Fabric>(
     ensures { result ≡ earliest_from best (meetings name (way_takes (over F.Fabric.meaning fabric.now) own.now) (way_takes (over F.Fabric.meaning fabric.now) held.now)) }
 {
     let mut best = best;
-    for place in 0..F::reach() {
+    for place in 0..F::longest() {
         if let Some(stay) = stay_on(fabric, own, place) {
             best = nearest_to(fabric, best, &stay, name, held);
         }

@@ -70,7 +70,7 @@ pub fn first_phase(held: &[Task], t: &OpenTask) -> Option<u32>
 fn stay_at<F: Fabric>(fabric: &F, way: &Way, link: u16) -> Option<Stay>
     ensures { AmongTakes (over F.Fabric.meaning fabric.now) way.now result }
 {
-    for place in 0..F::reach() {
+    for place in 0..F::longest() {
         if let Some(stay) = stay_on(fabric, way, place) {
             if stay.place == link {
                 return Some(stay);
