@@ -12,15 +12,6 @@ pub length_route : (o : Option (List ℕ)) (k : ℕ) → Some k ≡ route_length
 length_route None k is = let z : ◌≡◌ {A = ℕ} 0 1 = cc in absurd (omega arith)
 length_route (Some r) k is = (r, refl, cc)
 
--- where no length is answered there is no route
-pub no_length : (o : Option (List ℕ)) → None ≡ route_length o → o ≡ None
-no_length None is = refl
-no_length (Some r) is = let z : ◌≡◌ {A = ℕ} 0 1 = cc in absurd (omega arith)
-
--- the link at a place below a route's length
-pub place_in : (r : List ℕ) (i d : ℕ) → i < length r → route_place (Some r) i ≡ Some (get_or r i d)
-place_in r i d lt = slice_get-get_or r i d lt
-
 -- the link that is answered at a place stands there
 place_at : (r : List ℕ) (i x : ℕ) → Some x ≡ slice_get r i → (i < length r) × ((d : ℕ) → get_or r i d ≡ x)
 place_at r i x is =
@@ -42,11 +33,6 @@ no_place r i is =
     (λ le. le)
     (cases_lt i (length r))
 
--- below an answered length each place answers its link
-pub place_below : (o : Option (List ℕ)) (k : ℕ) → Some k ≡ route_length o → (i : ℕ) → i < k → (r : List ℕ) × (o ≡ Some r) × ((d : ℕ) → route_place o i ≡ Some (get_or r i d))
-place_below None k is i lt = let z : ◌≡◌ {A = ℕ} 0 1 = cc in absurd (omega arith)
-place_below (Some r) k is i lt = let long : k ≡ length r = cc in (r, refl, λ d. slice_get-get_or r i d (omega arith))
-
 -- the links of a route from place i on, none without a route: what a loop over the places has yet to see
 abbrev pub rest : Option (List ℕ) → ℕ → List ℕ
 rest None i = []
@@ -58,11 +44,6 @@ rest_more None i x is = let z : ◌≡◌ {A = ℕ} 0 1 = cc in absurd (omega ar
 rest_more (Some r) i x is =
     let p = place_at r i x is in
     drop_more r i 0 p.0 ∙ ap (λ y. y ∷ drop (i + 1) r) (p.1 0)
-
--- where no link is answered nothing is left
-pub rest_none : (o : Option (List ℕ)) (i : ℕ) → None ≡ route_place o i → rest o i ≡ []
-rest_none None i is = refl
-rest_none (Some r) i is = at_drop_all (λ xs. xs) r i (no_place r i is)
 
 -- each link of a chain has its two nodes
 chain_link : (link : ℕ → Option (ℕ × ℕ)) (a b : ℕ) (r : List ℕ) → Chain link a r b → (i d : ℕ) → i < length r → (p : ℕ × ℕ) × (link (get_or r i d) ≡ Some p)
@@ -94,15 +75,12 @@ module _ {longest : ℕ} {n : Network} (laws : Lawful longest n) (a b : ℕ) whe
       let l = chain_link n.link a b r (laws.chain a b r e) i d lt in
       (laws.ends (get_or r i d) l.0.0 l.0.1 l.1).0
 
-  -- so it is below 256
-  pub link_256 : (r : List ℕ) → n.route a b ≡ Some r → (i d : ℕ) → i < length r → get_or r i d < 256
-  link_256 r e i d lt = omega (arith, link_below r e i d lt, laws.few_links)
-
   -- the same of a link that a place answers
   pub place_link : (i x : ℕ) → Some x ≡ route_place (n.route a b) i → x < n.links
   place_link i x is =
       let p = place_route (n.route a b) i x is in
       omega (arith, link_below p.0 p.1 i 0 p.2, p.3 0)
 
+  -- so it is below 256
   pub place_256 : (i x : ℕ) → Some x ≡ route_place (n.route a b) i → x < 256
   place_256 i x is = omega (arith, place_link i x is, laws.few_links)

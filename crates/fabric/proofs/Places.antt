@@ -1,12 +1,11 @@
--- What stands at a place of a mesh's route, and a mesh's link by its number. Assumes nothing.
-use Rattle.std.proofs.Common.{◌≡◌, ℕ, ◌+◌, ◌-◌, ◌*◌, ◌/◌, ◌%◌, ◌<◌, ◌≤◌, true, ltb, List, ◌++◌, map, length, Some, None, sym, ap, ◌∙◌, ⊎_elim, mul-suc, arith, length-append}
+-- What stands at a place of a mesh's route. Assumes nothing.
+use Rattle.std.proofs.Common.{◌≡◌, ℕ, ◌+◌, ◌-◌, ◌*◌, ◌/◌, ◌%◌, ◌<◌, ◌≤◌, List, ◌++◌, map, length, Some, None, sym, ap, ◌∙◌, ⊎_elim, arith, length-append}
 use Rattle.std.proofs.lemmas.Bool.{lt-ltb, cases_lt, and_from, cond-true}
 use Rattle.std.specs.List.{range_with_len, slice_get}
 use Rattle.std.proofs.lemmas.List.FromFn.{length-map-range_with_len, get_or-map-range_with_len}
 use Rattle.std.proofs.lemmas.List.{get_or_append_left, get_or-append_right}
 use Rattle.std.proofs.lemmas.Option.{slice_get-get_or, slice_get_past}
-use Rattle.std.proofs.lemmas.Nat.{mul-le, div-add-mod'}
-use Rattle.fabric.specs.Grid.{node, toward, grid_link, east, west, north, south, across, along, grid_path, grid_route}
+use Rattle.fabric.specs.Grid.{east, west, north, south, across, along, grid_path, grid_route}
 use Rattle.fabric.specs.MeshLaws.{across_length, path_length}
 
 -- what stands at a place of two lists one after the other, and of counted links
@@ -64,23 +63,8 @@ module _ (w x y x' y' i j : ℕ) (past : ((x' - x) + (x - x')) + j ≡ i) where
 pub at_end : (w x y x' y' i : ℕ) → ((x' - x) + (x - x')) + ((y' - y) + (y - y')) ≤ i → slice_get (grid_path w x y x' y') i ≡ None
 at_end w x y x' y' i h = slice_get_past (grid_path w x y x' y') i (omega (arith, path_length w x y x' y'))
 
--- a node that is not in the first row has a row of nodes before it
-pub below_row : (w n : ℕ) → 0 < n / w → w ≤ n
-below_row w n h = omega (arith, div-add-mod' n w, mul-le 1 w (n / w) w h (omega arith))
-
--- the link toward y-1 from the node n at column x and row y
-south_from : (w h x y n : ℕ) → node w x y ≡ n → 0 < y → toward w h x y 3 ≡ Some (n, n - w)
-south_from w h x y n here up =
-    let less : w * (y - 1) + w ≡ w * y = sym (mul-suc w (y - 1)) ∙ ap (λ k. w * k) (omega arith) in
-    let there : node w x (y - 1) ≡ n - w = omega arith in
-    let clear : ltb 0 y ≡ true = lt-ltb 0 y up in
-    rw (clear, here, there)
-
--- the same by the number of the link
-pub south_at : (w h l : ℕ) → l < 4 * (w * h) → l % 4 ≡ 3 → 0 < l / 4 / w → grid_link w h l ≡ Some (l / 4, l / 4 - w)
-south_at w h l lt turned up =
-    let here : node w (l / 4 % w) (l / 4 / w) ≡ l / 4 = omega (arith, div-add-mod' (l / 4) w) in
-    cond-true _ _ _ (lt-ltb _ _ lt) ∙ ap (toward w h (l / 4 % w) (l / 4 / w)) turned ∙ south_from w h (l / 4 % w) (l / 4 / w) (l / 4) here up
+-- the link at each place of a path
+pub ruleset at_place = (at_east, at_west, at_north, at_south, at_end)
 
 -- two nodes of a mesh have the route along x first
 pub route_inside : (w h a b : ℕ) → a < w * h → b < w * h → grid_route w h a b ≡ Some (grid_path w (a % w) (a / w) (b % w) (b / w))

@@ -1,9 +1,12 @@
--- What a mesh and its making mean. Assumes nothing.
-use Rattle.std.specs.Prelude.{ℕ, Ok, Err, Result}
+-- What a mesh and its making mean, and the columns, rows and directions of its nodes. Assumes nothing.
+use Rattle.std.specs.Prelude.{◌≡◌, ℕ, ◌*◌, ◌/◌, ◌%◌, ◌<◌, Ok, Err, Result}
 use Rattle.fabric.specs.Network.{Network}
 use Rattle.fabric.specs.Grid.{grid}
 use Rattle.fabric.specs.declared.mesh.Mesh.{Mesh}
 use Rattle.fabric.specs.declared.mesh.SizeFault.{SizeFault}
+use Rattle.fabric.specs.declared.mesh.direction.Direction.{Direction}
+use Rattle.fabric.specs.declared.mesh.direction.Direction.TheVariants.{East, West, North, South}
+use Rattle.fabric.specs.declared.mesh.spot.Spot.{Spot}
 
 -- the network that a mesh means
 abbrev pub mesh_of : Mesh → Network
@@ -13,3 +16,16 @@ mesh_of m = grid m.columns m.rows m.delay
 abbrev pub made : Result Mesh SizeFault → Result Network ℕ
 made (Ok m) = Ok (mesh_of m)
 made (Err fault) = Err 3
+
+-- a direction by its number
+abbrev pub turn : Direction → ℕ
+turn East = 0
+turn West = 1
+turn North = 2
+turn South = 3
+
+-- the column and row of a node of the mesh
+pub record IsSpot (m : Mesh) (node : ℕ) (s : Spot) : Type 0 where
+  pub inside : node < m.columns * m.rows
+  pub column : s.x ≡ node % m.columns
+  pub row : s.y ≡ node / m.columns

@@ -8,21 +8,18 @@ pub mod mesh;
 
 pub trait Fabric {
     // the longest route that this kind of fabric can give
-    const LONGEST: usize;
+    ghost longest: { ℕ };
 
     // the nodes, links, hop delay and routes that the answers come from
     ghost meaning: { Self → Network };
-
-    // `LONGEST`, for the clauses
-    ghost longest: { ℕ };
 
     ghost bounded: { longest ≤ 64 };
 
     // the laws and limits, which each kind of fabric shows of itself
     ghost lawful: { (s : Self) → Lawful longest (meaning s) };
 
-    // `LONGEST`, for code that is proved from the laws
-    fn reach() -> usize
+    // a method, since the check gives no clauses to a constant of an `impl` with a lifetime, as that of listed fabrics is
+    fn longest() -> usize
         ensures { result ≡ longest };
 
     fn nodes(&self) -> usize

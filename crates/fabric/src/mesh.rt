@@ -1,7 +1,9 @@
 // A mesh of up to eight by eight nodes: its size and hop delay, always within their limits.
 ghost use Rattle.std.specs.Prelude.{◌≤◌};
 
+mod direction;
 mod routing;
+mod spot;
 
 pub use self::routing::mesh_routes_stand;
 

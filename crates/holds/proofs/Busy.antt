@@ -1,8 +1,8 @@
 -- The test `busy` decides whether some run holds an instant.
-use Rattle.std.proofs.Common.{◌≡◌, ℕ, suc, ◌+◌, ◌-◌, ◌*◌, ◌/◌, ◌%◌, ◌<◌, ◌≤◌, ltb, leb, ◌⊎◌, Some, Decides, ap, ◌∙◌, inl, inr, mul-le-mul_right, suc-mul, div-add-mod', arith}
+use Rattle.std.proofs.Common.{◌≡◌, ℕ, suc, ◌+◌, ◌-◌, ◌*◌, ◌/◌, ◌%◌, ◌<◌, ◌≤◌, Bool, true, false, cond, ltb, leb, ◌⊎◌, Some, None, Decides, Option, refl, sym, subst, ap, ◌∙◌, inl, inr, mul-le-mul_right, suc-mul, div-add-mod', arith}
 use native.Mathlib.Nat.{add-mul-mod_self_right}
 use lib.Arith.{digits_mod}
-use Rattle.holds.specs.Run.{RunAt}
+use Rattle.holds.specs.Run.{RunAt, run}
 use Rattle.std.proofs.lemmas.Bool.Decides.{Decides-and, Decides-like, Decides-ltb}
 use Rattle.std.proofs.lemmas.Bool.{leb-true, le-leb, cases_order}
 use Rattle.holds.specs.Span.{Span, Proper, HoldsAt, Busy, busy}
@@ -54,6 +54,15 @@ run_only h n k j p (a, b) (a', b') = go (cases_order j k)
     go (inr (inr l)) = absurd (omega (arith, p, suc-mul k h.period, mul-le-mul_right {m = suc k} {n = j} h.period l))
 
 -- the run is the number of whole periods since the start
-pub run_at : (h : Span) (n : ℕ) → Proper h → In h n → RunAt h n (Some ((n - h.start) / h.period))
-unfolding in_busy
-run_at h n p i = ((in_busy h n i).1, λ j t. run_only h n ((n - h.start) / h.period) j p (in_busy h n i).1 t)
+pub run_is : (h : Span) (n : ℕ) (o : Option ℕ) → Proper h → o ≡ run h n → RunAt h n o
+unfolding in_busy busy
+run_is h n o p e = subst (RunAt h n) (sym e) (go (busy h n) (busy_tells h n p))
+  where
+    k : ℕ
+    k = (n - h.start) / h.period
+
+    go : (t : Bool) → Decides t (Busy h n) → RunAt h n (cond t (Some k) None)
+    go true d =
+        let here = (in_busy h n (busy_in h n p (d.0 refl))).1 in
+        (here, λ j t. run_only h n k j p here t)
+    go false d = λ b. let wrong = d.1 b in cc

@@ -3,7 +3,8 @@ use Rattle.std.proofs.Common.{◌≡◌, ℕ, ◌<◌, ◌≤◌, Some, arith}
 use Rattle.std.proofs.lemmas.Bool.Decides.{nat_tests}
 use Rattle.holds.specs.declared.deliveries.Deliveries.{Deliveries}
 use Rattle.holds.specs.declared.hold.Hold.{Hold}
-use Rattle.holds.specs.Held.{span, flow, spanned, flowing, latest, longest}
+use Rattle.holds.specs.Held.{span, flow, spanned, flowing}
+use Rattle.holds.specs.Limits.{latest, longest}
 use Rattle.holds.specs.Slack.{Flow}
 use Rattle.holds.specs.Span.{Span, Proper}
 

@@ -96,3 +96,6 @@ runs_agree p q x y k j e = go (gcd_is_greatest p q).left (gcd_is_greatest p q).r
     go (m, a) (n, b) =
         mod_shift x y (k * m) (j * n) (gcd p q)
         (omega (arith, e, ap (λ (z : ℕ). k * z) a, ap (λ (z : ℕ). j * z) b, mul_assoc k m (gcd p q), mul_assoc j n (gcd p q)))
+
+-- a gap modulo the divisor of two periods is below it, and it is not 0
+pub ruleset gap_in_gcd = (gap_below, gcd_positive)

@@ -2,10 +2,11 @@
 use Rattle.std.proofs.Common.{◌≡◌, ℕ, zero, suc, ◌+◌, ◌-◌, ◌*◌, ◌/◌, ◌%◌, ◌<◌, ◌≤◌, max, ◌⊎◌, Some, None, sym, refl, ap, ◌∙◌, inl, inr, mul-le-mul_right, mod-lt, suc-mul, add-mul, mul-le-mul, div-add-mod', zero-mul, arith}
 use native.Mathlib.Nat.{le_dest}
 use Rattle.std.proofs.lemmas.Bool.{cases_lt}
+use Rattle.holds.specs.Limits.{latest, longest}
 use Rattle.holds.specs.Span.{Span, Proper, Busy}
 use Rattle.holds.specs.First.{IsFirst}
-use Rattle.holds.specs.Walk.{Lands, Least, EndsAfter}
-use Rattle.holds.proofs.Walk.{Round, quotient_le, lands_round, round_lands, lands_reduced, lands_whole}
+use Rattle.holds.specs.Walk.{EndsAfter, Lands, Least, Round}
+use Rattle.holds.proofs.Walk.{quotient_le, lands_round, round_lands, lands_reduced, lands_whole}
 
 -- past the end of run 0, whole periods are counted from there
 pub ends_later : (h : Span) (n : ℕ) → Proper h → h.start + h.width ≤ n
@@ -104,10 +105,9 @@ module _ (h1 h2 : Span) (p1 : Proper h1) (p2 : Proper h2) (begin x w : ℕ) (b :
 
 -- ---- the sums fit
 
--- 2^62 and 2^24 are above the limits of a hold
-pub begin_fits : (h : Span) (n t : ℕ) → Proper h → n ≤ 4611686018427387904 → h.start ≤ 4611686018427387904 → h.period ≤ 16777216
-    → EndsAfter h n t → t ≤ 4611686018444165120
+pub begin_fits : (h : Span) (n t : ℕ) → Proper h → n ≤ latest → h.start ≤ latest → h.period ≤ longest
+    → EndsAfter h n t → t ≤ latest + longest
 begin_fits h n t p l s q e = omega (arith, ends_near h n t p e)
 
-pub run_fits : (j p m : ℕ) → j < m → p ≤ 16777216 → m ≤ 16777216 → j * p ≤ 281474976710656
-run_fits j p m l q r = omega (arith, mul-le-mul {n₁ = j} {m₁ = p} {n₂ = 16777216} {m₂ = 16777216} (omega arith) q)
+pub run_fits : (j p m : ℕ) → j < m → p ≤ longest → m ≤ longest → j * p ≤ longest * longest
+run_fits j p m l q r = omega (arith, mul-le-mul {n₁ = j} {m₁ = p} {n₂ = longest} {m₂ = longest} (omega arith) q)

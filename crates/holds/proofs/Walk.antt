@@ -1,12 +1,8 @@
 -- Euclid's step on a walk around a circle: the same landings, counted by rounds.
-use Rattle.std.proofs.Common.{◌≡◌, ℕ, zero, suc, ◌+◌, ◌-◌, ◌*◌, ◌/◌, ◌%◌, ◌<◌, ◌≤◌, min, ◌⊎◌, Some, None, sym, ap, ◌∙◌, subst, inl, inr, mul-le-mul_right, mod-lt, mul_assoc, suc-mul, mul_comm, add-mul, mul-le-mul_left, mul-zero, div-add-mod', zero-mul, mul-suc, mul-add, mul_right_comm, le-mul_of_pos_right, arith}
+use Rattle.std.proofs.Common.{◌≡◌, ℕ, zero, suc, ◌+◌, ◌-◌, ◌*◌, ◌/◌, ◌%◌, ◌<◌, ◌≤◌, min, ◌⊎◌, Some, None, sym, ap, ◌∙◌, subst, inl, inr, mul-le-mul_right, mod-lt, mul_assoc, suc-mul, mul_comm, add-mul, mul-le-mul_left, mul-zero, div-add-mod', zero-mul, mul-suc, mul-add, mul_right_comm, arith}
 use native.Mathlib.Nat.{mod-le, mod-add-mod, add-mul-mod_self_right, le_dest}
 use Rattle.std.proofs.lemmas.Bool.{cases_lt}
-use Rattle.holds.specs.Walk.{Lands, Least}
-
--- step t of the walk lands, after k rounds
-abbrev pub Round : ℕ → ℕ → ℕ → ℕ → ℕ → ℕ → Type 0
-Round r a m w t k = (k * m ≤ r + t * a) × (r + t * a < k * m + w)
+use Rattle.holds.specs.Walk.{Carried, Lands, Least, Room, Round}
 
 pub lands_round : (r a m w j : ℕ) → Lands r a m w j → Round r a m w j ((r + j * a) / m)
 lands_round r a m w j h =
@@ -77,11 +73,6 @@ module _ (r a m w v x : ℕ) (below : r < m) (out : w ≤ r) (some : 0 < a) (sma
 
 -- ---- the walk in hand against the first one
 
--- what lands at step t of the walk in hand, after k rounds, lands at step A t + B k + C of the first
-pub record Carried (r₀ a₀ m₀ w₀ r a m w A B C : ℕ) : Type 0 where
-  pub sound : (t k : ℕ) → Round r a m w t k → Lands r₀ a₀ m₀ w₀ (A * t + B * k + C)
-  pub complete : (j : ℕ) → Lands r₀ a₀ m₀ w₀ j → (t : ℕ) × (k : ℕ) × Round r a m w t k × (A * t + B * k + C ≤ j)
-
 pub carried_first : (r a m w : ℕ) → Carried r a m w r a m w 1 0 0
 carried_first r a m w =
     record {
@@ -138,26 +129,10 @@ carried_never r₀ a₀ m₀ w₀ r a m w A B C h below out e = λ j l. go (h.co
 
 -- ---- the numbers stay small
 
--- the sizes and counts of a turn, against the size m₀ of the first walk
-pub record Room (m₀ r a m A B C : ℕ) : Type 0 where
-  pub at : r < m
-  pub step : a < m
-  pub size : m ≤ m₀
-  pub some : 0 < A
-  pub order : B ≤ A
-  pub whole : A * m + B * a ≡ m₀
-  pub count : C ≤ 2 * A + B
+pub room_first : (n r a m : ℕ) → r < m → a < m → m ≤ n → Room n r a m 1 0 0
+room_first n r a m h k l = record { at = h; step = k; size = omega arith; some = omega arith; order = omega arith; whole = omega arith; count = omega arith }
 
-pub room_first : (r a m : ℕ) → r < m → a < m → Room m r a m 1 0 0
-room_first r a m h k = record { at = h; step = k; size = omega arith; some = omega arith; order = omega arith; whole = omega arith; count = omega arith }
-
--- what a turn computes
-pub record Grown (m₀ a m A B C x : ℕ) : Type 0 where
-  pub room : Room m₀ (x % a) (m % a) a (A * (m / a) + B) A (C + (A * (x / a) + B))
-  pub more : A * (m / a) + B ≤ m₀
-  pub part : A * (x / a) + B ≤ m₀
-  pub count : C + (A * (x / a) + B) ≤ 3 * m₀
-
+-- a turn keeps them
 module _ (m₀ r a m A B C x : ℕ) (some : 0 < a) (short : x < m) (h : Room m₀ r a m A B C) where
   step_le : A * (x / a) ≤ A * (m / a)
   step_le =
@@ -171,11 +146,11 @@ module _ (m₀ r a m A B C x : ℕ) (some : 0 < a) (short : x < m) (h : Room m�
       go zero e = absurd (omega (arith, zero-mul a, mod-lt m some, h.step))
       go (suc q) e = omega (arith, mul-suc A q)
 
-  whole_more : (A * (m / a) + B) * a + A * (m % a) ≡ m₀
+  whole_more : (A * (m / a) + B) * a + A * (m % a) ≤ m₀
   whole_more =
       omega (arith, add-mul (A * (m / a)) B a, mul_assoc A (m / a) a, mul-add A (m / a * a) (m % a), ap (λ (n : ℕ). A * n) (div-add-mod' m a), h.whole)
 
-  room_more : Room m₀ (x % a) (m % a) a (A * (m / a) + B) A (C + (A * (x / a) + B))
+  pub room_more : Room m₀ (x % a) (m % a) a (A * (m / a) + B) A (C + (A * (x / a) + B))
   room_more =
       record {
         at = mod-lt x some;
@@ -185,19 +160,6 @@ module _ (m₀ r a m A B C x : ℕ) (some : 0 < a) (short : x < m) (h : Room m�
         order = omega (arith, grows);
         whole = whole_more;
         count = omega (arith, step_le, grows, h.count);
-      }
-
-  -- the new numbers, against the size of the first walk
-  more_fits : A * (m / a) + B ≤ m₀
-  more_fits = omega (arith, whole_more, le-mul_of_pos_right (A * (m / a) + B) some)
-
-  pub grown : Grown m₀ a m A B C x
-  grown =
-      record {
-        room = room_more;
-        more = more_fits;
-        part = omega (arith, more_fits, step_le);
-        count = omega (arith, more_fits, room_more.count, room_more.order);
       }
 
 -- ---- a least landing

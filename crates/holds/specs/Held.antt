@@ -2,16 +2,9 @@
 use Rattle.std.specs.Prelude.{ℕ, cond, ◌&&◌, Some, None, Option, nat_le, nat_lt}
 use Rattle.holds.specs.declared.deliveries.Deliveries.{Deliveries}
 use Rattle.holds.specs.declared.hold.Hold.{Hold}
+use Rattle.holds.specs.Limits.{latest, longest}
 use Rattle.holds.specs.Slack.{Flow}
 use Rattle.holds.specs.Span.{Span}
-
--- the latest first start, arrival and due instant: 2^62
-abbrev pub latest : ℕ
-latest = 4611686018427387904
-
--- the longest period: 255 * 65,536
-abbrev pub longest : ℕ
-longest = 16711680
 
 -- the numbers of a hold
 abbrev pub span : Hold → Span

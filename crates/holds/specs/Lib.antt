@@ -1,8 +1,10 @@
 pub mod Gcd
 pub mod Span
+pub mod Limits
 pub mod Search
 pub mod First
 pub mod Run
 pub mod Slack
 pub mod Held
 pub mod Walk
+pub mod Landing

@@ -1,4 +1,5 @@
 // The packets of one periodic sender, with their limits.
+ghost use Rattle.holds.specs.Limits.{latest, longest};
 ghost use Rattle.std.specs.Prelude.{◌<◌, ◌≤◌};
 
 // Packet k, from 0, arrives at arrival + k * period. It must be read by the earliest run of its reader that starts at or after due + k * period.
@@ -7,8 +8,8 @@ pub struct Deliveries {
     pub arrival: u64,
     pub due: u64,
     pub period: u32,
-    ghost soon: { arrival ≤ 4611686018427387904 },
-    ghost near: { due ≤ 4611686018427387904 },
+    ghost soon: { arrival ≤ latest },
+    ghost near: { due ≤ latest },
     ghost some: { 0 < period },
-    ghost short: { period ≤ 16711680 },
+    ghost short: { period ≤ longest },
 }

@@ -8,9 +8,11 @@ ghost use Rattle.holds.specs.Slack.{AlwaysRead, LeastWhole, SlackIsLeast};
 ghost use Rattle.holds.specs.Span.{GapIsDifference, PairTest};
 ghost use Rattle.std.specs.Prelude.{◌≡◌};
 
+mod circle;
 mod deliveries;
 mod divisor;
 mod hold;
+mod landing;
 mod make;
 mod meeting;
 mod run;

@@ -7,16 +7,17 @@ use super::deliveries::Deliveries;
 use super::hold::Hold;
 
 // The latest first start, arrival and due instant.
-const LATEST: u64 = 4_611_686_018_427_387_904;
+const LATEST: u64 = 1 << 62;
 
-// The longest period, 255 * 65,536.
-const LONGEST: u32 = 16_711_680;
+// The longest period.
+const LONGEST: u32 = 255 * 65_536;
 
 impl Hold {
     // The hold of these numbers, or none outside the limits.
     pub fn new(start: u64, period: u32, width: u32) -> Option<Hold>
         ensures { option_map span result ≡ spanned start period width }
     {
+        // here and below by `if`, since a closure for `then` would have to ask for the limits again
         if start <= LATEST && 0 < width && width <= period && period <= LONGEST {
             Some(Hold {
                 start,

@@ -10,14 +10,7 @@ pub fn run_at(h: Hold, n: u64) -> Option<u64>
     ensures value { result ≡ run (span h) n }
     ensures instants { RunAt (span h) n result }
 {
-    if n < h.start {
-        return None;
-    }
-    let passed = n - h.start;
+    let passed = n.checked_sub(h.start)?;
     let period = h.period as u64;
-    if passed % period < h.width as u64 {
-        Some(passed / period)
-    } else {
-        None
-    }
+    (passed % period < h.width as u64).then_some(passed / period)
 }

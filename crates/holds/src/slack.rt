@@ -8,6 +8,7 @@ use super::divisor::{gap, gcd};
 use super::hold::Hold;
 
 // The least slack over all packets: the start of the run that reads a packet less the packet's arrival.
+#[tactic(auto, using(crate::proofs::Residue::gap_in_gcd))]
 pub fn least_slack(packets: Deliveries, reader: Hold) -> i64
     ensures value { result ≡ least_slack (flow packets) (span reader) }
     ensures least { LeastSlack (flow packets) (span reader) result }

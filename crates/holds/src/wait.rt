@@ -10,6 +10,7 @@ use super::hold::Hold;
 //
 // Only the distance of the starts modulo the divisor of both periods counts. Put off by one instant, it grows by one and turns
 // around at the divisor, and it is clear from the width of `held` up to what leaves room for that of `own`.
+#[tactic(auto, using(crate::proofs::Residue::gap_in_gcd))]
 pub fn least_wait(own: Hold, held: Hold) -> Option<u32>
     ensures { Least (λ x. Meet (span held) (later x (span own)) → ⊥) result }
 {

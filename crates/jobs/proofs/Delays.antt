@@ -4,7 +4,8 @@ use Rattle.std.specs.Option.{option_map}
 use Rattle.std.proofs.lemmas.Int.{ints}
 use Rattle.std.proofs.lemmas.Bool.{both_ways, le-leb}
 use Rattle.fabric.proofs.Laws.{length_route}
-use Rattle.holds.specs.Held.{flowing, latest, longest}
+use Rattle.holds.specs.Held.{flowing}
+use Rattle.holds.specs.Limits.{latest, longest}
 use Rattle.holds.specs.Slack.{Flow}
 use Rattle.holds.specs.Span.{Span}
 use Rattle.records.specs.declared.record.Message.{Message}

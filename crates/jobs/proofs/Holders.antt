@@ -1,10 +1,10 @@
 -- The holder that the rule tells has the place at the instant, and where it tells none, nothing has.
-use Rattle.std.proofs.Common.{◌≡◌, ℕ, zero, suc, ◌+◌, ◌-◌, ◌/◌, ◌%◌, Bool, true, false, cond, ◌&&◌, ltb, leb, List, [], ◌∷◌, map, Some, None, Option, sym, refl, ap, ◌∙◌, subst, arith}
+use Rattle.std.proofs.Common.{◌≡◌, ℕ, zero, suc, ◌+◌, Bool, true, false, cond, List, [], ◌∷◌, map, Some, None, Option, sym, refl, ap, ◌∙◌, subst, arith}
 use Rattle.std.specs.List.{slice_get}
-use Rattle.std.proofs.lemmas.Bool.{and_from, and_parts, cond-true, le-leb, leb-true, lt-ltb, ltb-true}
-use Rattle.holds.specs.Run.{run}
+use Rattle.std.proofs.lemmas.Bool.{cond-true}
+use Rattle.holds.specs.Run.{RunAt, run}
 use Rattle.holds.specs.Span.{HoldsAt, Proper, Span}
-use Rattle.holds.proofs.Busy.{busy_in, run_at}
+use Rattle.holds.proofs.Busy.{run_is}
 use Rattle.holds.proofs.Limits.{spanned_proper}
 use Rattle.records.specs.declared.record.Task.{Task}
 use Rattle.records.specs.declared.record.Message.{Message}
@@ -17,22 +17,14 @@ use Rattle.jobs.specs.Takes.{Take, along, between, on_route, same_place}
 -- ---- the run of one hold
 
 run_sound : (h : Span) (n k : ℕ) → Proper h → run h n ≡ Some k → HoldsAt h k n
-run_sound h n k p e = go (leb h.start n && ltb ((n - h.start) % h.period) h.width) refl e
-  where
-    go : (b : Bool) → (leb h.start n && ltb ((n - h.start) % h.period) h.width) ≡ b → cond b (Some ((n - h.start) / h.period)) None ≡ Some k → HoldsAt h k n
-    go false t is = let z : ◌≡◌ {A = ℕ} 0 1 = cc in absurd (omega arith)
-    go true t is =
-        let parts = and_parts (leb h.start n) (ltb ((n - h.start) % h.period) h.width) t in
-        let same : (n - h.start) / h.period ≡ k = cc in
-        subst (λ (j : ℕ). HoldsAt h j n) same
-        (run_at h n p (leb-true h.start n parts.0, ltb-true ((n - h.start) % h.period) h.width parts.1)).0
+run_sound h n k p e = (run_is h n (Some k) p (sym e)).0
 
 run_complete : (h : Span) (n k : ℕ) → Proper h → HoldsAt h k n → run h n ≡ Some k
-run_complete h n k p holds =
-    let inside = busy_in h n p (k, holds) in
-    let test : (leb h.start n && ltb ((n - h.start) % h.period) h.width) ≡ true
-    = and_from _ _ (le-leb h.start n inside.0) (lt-ltb ((n - h.start) % h.period) h.width inside.1) in
-    cond-true _ _ _ test ∙ ap Some (sym ((run_at h n p inside).1 k holds))
+run_complete h n k p holds = go (run h n) (run_is h n (run h n) p refl)
+  where
+    go : (o : Option ℕ) → RunAt h n o → o ≡ Some k
+    go None never = absurd (never (k, holds))
+    go (Some j) here = ap Some (sym (here.1 k holds))
 
 -- ---- takes
 

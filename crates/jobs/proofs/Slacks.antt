@@ -3,7 +3,8 @@ use Rattle.std.proofs.Common.{◌≡◌, ℕ, ◌<◌, Bool, true, false, cond, 
 use Rattle.std.proofs.lemmas.Bool.{and_parts, ltb-true}
 use Rattle.holds.specs.Span.{Span}
 use Rattle.holds.specs.Slack.{Flow, LeastSlack, least_slack}
-use Rattle.holds.specs.Held.{flowing, latest, longest, spanned}
+use Rattle.holds.specs.Held.{flowing, spanned}
+use Rattle.holds.specs.Limits.{latest, longest}
 use Rattle.holds.proofs.Limits.{spanned_proper}
 use Rattle.holds.proofs.Reading.{slack_is_least}
 use Rattle.records.specs.Named.{named}

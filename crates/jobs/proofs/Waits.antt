@@ -4,7 +4,8 @@ use Rattle.std.specs.List.{slice_get}
 use Rattle.std.specs.Option.{option_map}
 use Rattle.std.proofs.lemmas.Bool.{both_ways, cond_both, le-leb}
 use Rattle.holds.specs.First.{IsFirst, first}
-use Rattle.holds.specs.Held.{latest, longest, span, spanned}
+use Rattle.holds.specs.Held.{span, spanned}
+use Rattle.holds.specs.Limits.{latest, longest}
 use Rattle.holds.specs.Span.{Meet, Proper, Span, later}
 use Rattle.holds.specs.Walk.{Least}
 use Rattle.holds.specs.declared.hold.Hold.{Hold}

@@ -11,18 +11,16 @@ pub struct Shuttle;
 const LINKS: usize = 64;
 
 impl Fabric for Shuttle {
-    const LONGEST: usize = LINKS;
+    ghost longest = { 64 };
 
     ghost meaning = { λ s. shuttle_network };
-
-    ghost longest = { 64 };
 
     ghost bounded = { lit≤ tt };
 
     ghost lawful = { λ s. shuttle_lawful };
 
-    fn reach() -> usize {
-        Self::LONGEST
+    fn longest() -> usize {
+        LINKS
     }
 
     fn nodes(&self) -> usize {

@@ -1,14 +1,19 @@
 // How a mesh is made and what it answers: its routes go along x first and then along y.
-ghost use Rattle.std.specs.Prelude.{◌≡◌, ℕ, ◌+◌, ◌*◌, ◌<◌, ◌≤◌, [], ◌∷◌, Some};
+ghost use Rattle.std.specs.Prelude.{◌≡◌, ℕ, ◌+◌, ◌*◌, ◌<◌, ◌≤◌, [], ◌∷◌, Some, MatchOption};
 ghost use Rattle.std.proofs.Common.{lit≤};
 ghost use Rattle.std.specs.List.{slice_get};
-ghost use Rattle.fabric.specs.Grid.{grid, grid_path, grid_made};
-ghost use Rattle.fabric.specs.Meshes.{mesh_of, made};
+ghost use Rattle.fabric.specs.Grid.{grid, grid_path, grid_made, node};
+ghost use Rattle.fabric.specs.Meshes.{mesh_of, made, turn, IsSpot};
 ghost use Rattle.fabric.specs.MeshLaws.{mesh_lawful};
 ghost use Rattle.fabric.specs.MeshRoutes.{MeshRoutes};
 
 use super::super::Fabric;
+use super::direction::Direction;
+use super::spot::Spot;
 use super::{Mesh, SizeFault};
+
+// Seven links along x and seven along y.
+const LONGEST: usize = 14;
 
 impl Mesh {
     // A mesh of `columns` by `rows` nodes, or the refusal of a size or a delay outside the limits.
@@ -24,21 +29,65 @@ impl Mesh {
             delay,
         })
     }
+
+    // The column and row of a node.
+    fn spot_of(&self, node: usize) -> Option<Spot>
+        ensures { MatchOption result (self.now.columns * self.now.rows ≤ node) (IsSpot self.now node) }
+    {
+        if node >= self.nodes() {
+            return None;
+        }
+        let columns = self.columns as usize;
+        Some(Spot {
+            x: node % columns,
+            y: node / columns,
+        })
+    }
+
+    // The link out of the node at a column and row.
+    fn link_out(&self, x: usize, y: usize, toward: Direction) -> usize
+        requires { (x < 8) × (y < 8) }
+        ensures { result ≡ 4 * node self.now.columns x y + turn toward }
+    {
+        toward.link(x + self.columns as usize * y)
+    }
+
+    // The link at a place of the path from one spot to another.
+    #[tactic(auto, using(crate::proofs::Places::at_place))]
+    fn leg(&self, from: Spot, to: Spot, place: usize) -> Option<usize>
+        ensures { result ≡ slice_get (grid_path self.now.columns from.x from.y to.x to.y) place }
+    {
+        let across = from.x.abs_diff(to.x);
+        if place < across {
+            return Some(if from.x < to.x {
+                self.link_out(from.x + place, from.y, Direction::East)
+            } else {
+                self.link_out(from.x - place, from.y, Direction::West)
+            });
+        }
+        let rest = place - across;
+        if rest >= from.y.abs_diff(to.y) {
+            return None;
+        }
+        Some(if from.y < to.y {
+            self.link_out(to.x, from.y + rest, Direction::North)
+        } else {
+            self.link_out(to.x, from.y - rest, Direction::South)
+        })
+    }
 }
 
 impl Fabric for Mesh {
-    const LONGEST: usize = 14;
+    ghost longest = { 14 };
 
     ghost meaning = { mesh_of };
-
-    ghost longest = { 14 };
 
     ghost bounded = { lit≤ tt };
 
     ghost lawful = { λ s. mesh_lawful s.columns s.rows s.delay s.wide.0 s.wide.1 s.high.0 s.high.1 s.slow };
 
-    fn reach() -> usize {
-        Self::LONGEST
+    fn longest() -> usize {
+        LONGEST
     }
 
     fn nodes(&self) -> usize {
@@ -54,80 +103,29 @@ impl Fabric for Mesh {
     }
 
     fn link(&self, l: usize) -> Option<(usize, usize)> {
-        if l >= self.link_numbers() {
-            return None;
-        }
-        let columns = self.columns as usize;
         let node = l / 4;
-        let x = node % columns;
-        let y = node / columns;
-        match l % 4 {
-            0 => if x + 1 < columns {
-                Some((node, node + 1))
-            } else {
-                None
-            },
-            1 => if 0 < x { Some((node, node - 1)) } else { None },
-            2 => if y + 1 < self.rows as usize {
-                Some((node, node + columns))
-            } else {
-                None
-            },
-            _ => if 0 < y {
-                Some((node, node - columns))
-            } else {
-                None
-            },
-        }
+        let spot = self.spot_of(node)?;
+        let columns = self.columns as usize;
+        let next = match Direction::of(l) {
+            Direction::East if spot.x + 1 < columns => node + 1,
+            Direction::West if 0 < spot.x => node - 1,
+            Direction::North if spot.y + 1 < self.rows as usize => node + columns,
+            Direction::South if 0 < spot.y => node - columns,
+            _ => return None,
+        };
+        Some((node, next))
     }
 
+    #[tactic(auto, using(crate::proofs::Places::route_inside, crate::specs::MeshLaws::path_length))]
     fn route_len(&self, from: usize, to: usize) -> Option<usize> {
-        let nodes = self.nodes();
-        if from >= nodes || to >= nodes {
-            return None;
-        }
-        let columns = self.columns as usize;
-        Some((from % columns).abs_diff(to % columns) + (from / columns).abs_diff(to / columns))
+        let from = self.spot_of(from)?;
+        let to = self.spot_of(to)?;
+        Some(from.x.abs_diff(to.x) + from.y.abs_diff(to.y))
     }
 
     fn route_link(&self, from: usize, to: usize, place: usize) -> Option<usize> {
-        let nodes = self.nodes();
-        if from >= nodes || to >= nodes {
-            return None;
-        }
-        let columns = self.columns as usize;
-        leg(
-            columns,
-            from % columns,
-            from / columns,
-            to % columns,
-            to / columns,
-            place,
-        )
+        self.leg(self.spot_of(from)?, self.spot_of(to)?, place)
     }
-}
-
-// The link at a place of the path from column `x` and row `y` to column `x2` and row `y2`.
-fn leg(columns: usize, x: usize, y: usize, x2: usize, y2: usize, place: usize) -> Option<usize>
-    requires wide { columns ≤ 8 }
-    requires within { (x < columns) × (y < 8) × (x2 < columns) × (y2 < 8) }
-    ensures { result ≡ slice_get (grid_path columns x y x2 y2) place }
-{
-    let far = x.abs_diff(x2);
-    if place < far {
-        if x < x2 {
-            return Some(4 * (x + place + columns * y));
-        }
-        return Some(4 * (x - place + columns * y) + 1);
-    }
-    let rest = place - far;
-    if rest < y.abs_diff(y2) {
-        if y < y2 {
-            return Some(4 * (x2 + columns * (y + rest)) + 2);
-        }
-        return Some(4 * (x2 + columns * (y - rest)) + 3);
-    }
-    None
 }
 
 // Every two nodes of every mesh have a route, along x first and as long as they are apart; and the worked example,

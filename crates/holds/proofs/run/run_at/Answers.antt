@@ -1,19 +1,11 @@
-use Rattle.std.proofs.Common.{arith, rules}
+use Rattle.std.proofs.Common.{rules}
 use Rattle.holds.specs.Held.{span}
-use Rattle.holds.proofs.Busy.{run_at, busy_in, busy_begun}
+use Rattle.holds.proofs.Busy.{run_is}
 use Rattle.holds.proofs.Limits.{proper}
 use Rattle.holds.proofs.run.run_at.Goals as goal
 
-pub returns-then-n-h : goal.returns-then-n-h
-returns-then-n-h c = record { value = search rules; instants = λ b. omega (arith, busy_begun (span c.args.h) c.args.n b) }
+pub returns-clause-instants : goal.returns-clause-instants
+returns-clause-instants c = run_is (span c.args.h) c.args.n c.then_some.result (proper c.args.h) (search rules)
 
-pub returns-then-passed-period : goal.returns-then-passed-period
-returns-then-passed-period c =
-    record {
-      value = search rules;
-      instants = run_at (span c.args.h) c.args.n (proper c.args.h) (omega arith, c.if-passed-period.true);
-    }
-
-pub returns-else-passed-period : goal.returns-else-passed-period
-returns-else-passed-period c =
-    record { value = search rules; instants = λ b. omega (arith, busy_in (span c.args.h) c.args.n (proper c.args.h) b) }
+pub returns-in_err-passed-clause-instants : goal.returns-in_err-passed-clause-instants
+returns-in_err-passed-clause-instants c = run_is (span c.args.h) c.args.n c.from_residual.result (proper c.args.h) (search rules)

@@ -18,18 +18,6 @@ some d r g e = omega (arith, gcd_positive d.period r.period (flow_some d))
 short : (d : Deliveries) (r : Hold) (g : ℕ) → g ≡ gcd d.period r.period → gap d.due r.start g < g
 short d r g e = gap_below d.due r.start g (some d r g e)
 
-pub gap-requires : goal.gap-requires
-gap-requires c = (some c.args.packets c.args.reader c.gcd-g.result c.gcd-g.ensures, c.args.reader.near)
-
-pub overflow_add-read : goal.overflow_add-read
-overflow_add-read c = omega (arith, short c.args.packets c.args.reader c.gcd-g.result c.gcd-g.ensures)
-
-pub overflow_cast-result : goal.overflow_cast-result
-overflow_cast-result c = omega (arith, short c.args.packets c.args.reader c.gcd-g.result c.gcd-g.ensures)
-
-pub overflow_sub-result : goal.overflow_sub-result
-overflow_sub-result c = omega (arith, ints, short c.args.packets c.args.reader c.gcd-g.result c.gcd-g.ensures)
-
 pub returns : goal.returns
 returns c =
     let wait : c.gap.result ≡ gap c.args.packets.due c.args.reader.start (gcd c.args.packets.period c.args.reader.period)

@@ -15,15 +15,6 @@ some held own g e = omega (arith, gcd_positive held.period own.period (period_so
 short : (held own : Hold) (g d : ℕ) → g ≡ gcd held.period own.period → d ≡ gap held.start own.start g → d < g
 short held own g d e is = omega (arith, gap_below held.start own.start g (some held own g e))
 
-pub gap-d-requires : goal.gap-d-requires
-gap-d-requires c = (some c.args.held c.args.own c.gcd-g.result c.gcd-g.ensures, c.args.own.near)
-
-pub overflow_cast-d : goal.overflow_cast-d
-overflow_cast-d c = omega (arith, short c.args.held c.args.own c.gcd-g.result c.gap-d.result c.gcd-g.ensures c.gap-d.ensures)
-
-pub overflow_sub-left : goal.overflow_sub-left
-overflow_sub-left c = omega (arith, short c.args.held c.args.own c.gcd-g.result c.gap-d.result c.gcd-g.ensures c.gap-d.ensures)
-
 pub returns-then-g-held : goal.returns-then-g-held
 returns-then-g-held c =
     wait_never (span c.args.own) (span c.args.held) (proper c.args.own) (proper c.args.held) c.gcd-g.result c.gap-d.result
