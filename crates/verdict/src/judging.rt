@@ -11,7 +11,7 @@ use fabric::Fabric;
 use fabric::mesh::Mesh;
 use listed::{Listed, SetFault, read_section};
 use plan::Plan;
-use records::head::{Head, HeadFault, read_head};
+use records::head::{FabricKind, Head, HeadFault, read_head};
 use records::record::{Link, Route};
 use refusals::line::write_line;
 use refusals::refusal::{BufferFault, Line};
@@ -69,13 +69,10 @@ fn judge_file(file: &[u8]) -> Result<(usize, usize), FileFault>
     }
     match read_head(file) {
         Err(fault) => Err(FileFault::Fabric(SetFault::Head(fault))),
-        Ok((head, rest)) => {
-            if head.kind == 1 {
-                judge_mesh(&head, rest)
-            } else {
-                judge_listed(file)
-            }
-        }
+        Ok((head, rest)) => match head.kind {
+            FabricKind::Mesh => judge_mesh(&head, rest),
+            FabricKind::Listed => judge_listed(file),
+        },
     }
 }
 

@@ -9,5 +9,5 @@ pub returns-in-Ok : goal.returns-in-Ok
 returns-in-Ok g c =
     let low : over c.args.limit (count_of c.args.file.now) ≡ false =
     elim c.match-counted.branch [ in-Some+else-n-limit w ↦ search rules | in_default w ↦ search rules ] in
-    let p = section_few g.R.Record.size c.args.limit c.args.file.now _ _ low c.in-Ok.ensures in
+    let p = section_few g.R.Record.SIZE c.args.limit c.args.file.now _ _ low c.in-Ok.ensures in
     record { answer = p.0; few = p.1 }
