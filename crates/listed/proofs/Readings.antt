@@ -2,14 +2,16 @@
 use Rattle.std.proofs.Common.{◌≡◌, ℕ, ◌+◌, ◌*◌, ◌≤◌, Bool, true, false, cond, ◌&&◌, eqb, ltb, leb, List, length, take, drop, Some, None, Ok, Err, Result, sym, refl, ap, ◌∙◌, le_refl, arith, length-take}
 use Rattle.std.proofs.lemmas.Nat.{mul-le}
 use Rattle.std.proofs.lemmas.Bool.{and_parts, leb-true, ltb-false, cond-false}
+use Rattle.records.specs.declared.head.FabricKind.{FabricKind}
+use Rattle.records.specs.declared.head.FabricKind.TheVariants.{Mesh as MeshKind, Listed as ListedKind}
 use Rattle.records.specs.declared.head.Head.{Head as FileHead}
 use Rattle.records.specs.declared.head.HeadFault.{HeadFault}
-use Rattle.records.specs.declared.head.HeadFault.TheVariants.{Version, Limits}
+use Rattle.records.specs.declared.head.HeadFault.TheVariants.{Limits}
 use Rattle.records.specs.Bytes.{be}
 use Rattle.records.specs.Head.{head_read}
 use Rattle.records.specs.Sections.{fitting, count_of, cut_of}
 use Rattle.listed.specs.declared.faults.SectionFault.TheVariants.{Short}
-use Rattle.listed.specs.Setting.{within, head_fits, of_kind_2, listed_head, over, section_read}
+use Rattle.listed.specs.Setting.{within, head_fits, head_of_kind, of_listed, listed_head, over, section_read}
 
 -- an answer that stands behind a test that had to come out false
 behind : {T E : Type 0} (t : Bool) (e : E) (o : Result T E) (v : T) → cond t (Err e) o ≡ Ok v → (t ≡ false) × (o ≡ Ok v)
@@ -29,18 +31,20 @@ fits_limits h fits =
     let c = and_parts (eqb h.y 1) (leb h.delay 64) b.1 in
     (leb-true _ _ a.0, leb-true _ _ b.0, leb-true _ _ c.1)
 
-kind_limits : (o : Result (FileHead × List ℕ) HeadFault) (h : FileHead) (rest : List ℕ) → of_kind_2 o ≡ Ok (h, rest) → (1 ≤ h.x) × (h.x ≤ 64) × (h.delay ≤ 64)
-kind_limits (Err e) h rest read = let z : ◌≡◌ {A = ℕ} 0 1 = cc in absurd (omega arith)
-kind_limits (Ok p) h rest read =
-    let inner : Result (FileHead × List ℕ) HeadFault = cond (head_fits p.0) (Ok p) (Err Limits) in
-    let q = ahead (eqb p.0.kind 2) Version inner (h, rest) read in
-    let r = ahead (head_fits p.0) Limits (Ok p) (h, rest) q.1 in
+kind_limits : (kind : FabricKind) (p : FileHead × List ℕ) (h : FileHead) (rest : List ℕ) → head_of_kind kind p ≡ Ok (h, rest) → (1 ≤ h.x) × (h.x ≤ 64) × (h.delay ≤ 64)
+kind_limits MeshKind p h rest read = let z : ◌≡◌ {A = ℕ} 0 1 = cc in absurd (omega arith)
+kind_limits ListedKind p h rest read =
+    let r = ahead (head_fits p.0) Limits (Ok p) (h, rest) read in
     let e : ◌≡◌ {A = FileHead × List ℕ} p (h, rest) = cc r.1 in
     let same : p.0 ≡ h = ap (λ v. v.0) e in
     fits_limits h (ap head_fits (sym same) ∙ r.0)
 
+read_limits : (o : Result (FileHead × List ℕ) HeadFault) (h : FileHead) (rest : List ℕ) → of_listed o ≡ Ok (h, rest) → (1 ≤ h.x) × (h.x ≤ 64) × (h.delay ≤ 64)
+read_limits (Err e) h rest read = let z : ◌≡◌ {A = ℕ} 0 1 = cc in absurd (omega arith)
+read_limits (Ok p) h rest read = kind_limits p.0.kind p h rest read
+
 pub head_limits : (file : List ℕ) (h : FileHead) (rest : List ℕ) → listed_head file ≡ Ok (h, rest) → (1 ≤ h.x) × (h.x ≤ 64) × (h.delay ≤ 64)
-head_limits file h rest read = kind_limits (head_read file) h rest read
+head_limits file h rest read = read_limits (head_read file) h rest read
 
 -- a section within its limit is read, and its bytes are few
 pub section_few : (size limit : ℕ) (file bytes rest : List ℕ) → over limit (count_of file) ≡ false → cut_of size file ≡ Ok (bytes, rest) → (section_read size limit file ≡ Ok (bytes, rest)) × (length bytes ≤ limit * size)

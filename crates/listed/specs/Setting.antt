@@ -7,6 +7,8 @@
 --   link_fault, route_fault    what is wrong with a record
 --   setting_read               all of it, in order, by head_set, links_set and routes_set
 use Rattle.std.specs.Prelude.{ℕ, zero, suc, ◌+◌, Bool, false, cond, ◌&&◌, List, [], Some, None, Ok, Err, Option, Result, ◌==◌, nat_le, nat_lt}
+use Rattle.records.specs.declared.head.FabricKind.{FabricKind}
+use Rattle.records.specs.declared.head.FabricKind.TheVariants.{Mesh as MeshKind, Listed as ListedKind}
 use Rattle.records.specs.declared.head.Head.{Head as FileHead}
 use Rattle.records.specs.declared.head.HeadFault.{HeadFault}
 use Rattle.records.specs.declared.head.HeadFault.TheVariants.{Version, Limits}
@@ -69,14 +71,19 @@ first_fault fault k (suc m) = either (fault k) (first_fault fault (k + 1) m)
 abbrev pub head_fits : FileHead → Bool
 head_fits h = nat_le 1 h.x && (nat_le h.x 64 && (h.y == 1 && nat_le h.delay 64))
 
--- the head that was read, of kind 2 and within the limits: another kind is a fault of the version
-abbrev pub of_kind_2 : Result (FileHead × List ℕ) HeadFault → Result (FileHead × List ℕ) HeadFault
-of_kind_2 (Err e) = Err e
-of_kind_2 (Ok p) = cond (p.0.kind == 2) (cond (head_fits p.0) (Ok p) (Err Limits)) (Err Version)
+-- a head of a kind: a mesh is a fault of the version, a listed fabric has to be within the limits
+abbrev pub head_of_kind : FabricKind → FileHead × List ℕ → Result (FileHead × List ℕ) HeadFault
+head_of_kind MeshKind p = Err Version
+head_of_kind ListedKind p = cond (head_fits p.0) (Ok p) (Err Limits)
+
+-- the head that was read, of a listed fabric and within the limits
+abbrev pub of_listed : Result (FileHead × List ℕ) HeadFault → Result (FileHead × List ℕ) HeadFault
+of_listed (Err e) = Err e
+of_listed (Ok p) = head_of_kind p.0.kind p
 
 -- the head of a listed fabric and the rest of the file, or the first fault
 abbrev pub listed_head : List ℕ → Result (FileHead × List ℕ) HeadFault
-listed_head file = of_kind_2 (head_read file)
+listed_head file = of_listed (head_read file)
 
 -- a count is over a limit
 abbrev pub over : ℕ → Option ℕ → Bool

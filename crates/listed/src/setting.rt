@@ -7,7 +7,7 @@ ghost use Rattle.listed.specs.Setting.{setting_of, alone, head_fits, listed_head
 
 use super::checks::{check_links, check_routes};
 use super::{Listed, SectionFault, SetFault};
-use records::head::{Head, HeadFault, read_head};
+use records::head::{FabricKind, Head, HeadFault, read_head};
 use records::record::Record;
 use records::section::{Section, counted, cut};
 
@@ -23,13 +23,11 @@ fn read_listed_head(file: &[u8]) -> Result<(Head, &[u8]), HeadFault>
     ensures { MatchResult result (λ p. listed_head file.now ≡ Ok (p.0, p.1.now)) (λ e. listed_head file.now ≡ Err e) }
 {
     let (head, rest) = read_head(file)?;
-    if head.kind != 2 {
-        return Err(HeadFault::Version);
+    match head.kind {
+        FabricKind::Mesh => Err(HeadFault::Version),
+        FabricKind::Listed if fits(&head) => Ok((head, rest)),
+        FabricKind::Listed => Err(HeadFault::Limits),
     }
-    if !fits(&head) {
-        return Err(HeadFault::Limits);
-    }
-    Ok((head, rest))
 }
 
 // A section of at most `limit` records, and what follows it.
@@ -37,8 +35,8 @@ pub fn read_section<'a, R: Record>(
     file: &'a [u8],
     limit: u16,
 ) -> Result<(Section<'a, R>, &'a [u8]), SectionFault>
-    ensures answer { MatchResult result (λ p. section_read R.Record.size limit file.now ≡ Ok (p.0.bytes.now, p.1.now)) (λ e. section_read R.Record.size limit file.now ≡ Err e) }
-    ensures few { IfOk result (λ p. length p.0.bytes.now ≤ limit * R.Record.size) }
+    ensures answer { MatchResult result (λ p. section_read R.Record.SIZE limit file.now ≡ Ok (p.0.bytes.now, p.1.now)) (λ e. section_read R.Record.SIZE limit file.now ≡ Err e) }
+    ensures few { IfOk result (λ p. length p.0.bytes.now ≤ limit * R.Record.SIZE) }
 {
     if counted(file).is_some_and(|n| n > limit) {
         return Err(SectionFault::Many);

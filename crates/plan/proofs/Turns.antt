@@ -1,5 +1,5 @@
 -- Jobs that are offered in turn: what one more offer does, and where a section has the next one.
-use Rattle.std.proofs.Common.{◌≡◌, ℕ, ◌+◌, ◌/◌, ◌<◌, ◌≤◌, List, ◌∷◌, length, get_or, drop, Some, None, Ok, Err, Option, Result, sym, refl, ap, ◌∙◌, arith}
+use Rattle.std.proofs.Common.{◌≡◌, ℕ, ◌+◌, ◌/◌, ◌<◌, ◌≤◌, List, [], ◌∷◌, length, get_or, drop, Some, None, Ok, Err, Option, Result, sym, refl, ap, ◌∙◌, arith}
 use Rattle.std.proofs.lemmas.List.{drop_more, drop_all}
 use Rattle.records.specs.Sections.{record_at, section_records}
 use Rattle.records.proofs.Sections.{section_each, section_length}
@@ -56,5 +56,11 @@ module _ {X : Type 0} (parsed : List ℕ → Option X) (size : ℕ) (bytes : Lis
   on_record x is = let same : Some x ≡ Some (get_or xs i x) = is ∙ section_each parsed size bytes xs read i x within in (within, cc)
 
   -- and each place has one
-  pub no_record : (d : X) → None ≡ record_at parsed size bytes i → ⊥
-  no_record d is = let none : None ≡ Some (get_or xs i d) = is ∙ section_each parsed size bytes xs read i d within in let z : ◌≡◌ {A = ℕ} 0 1 = cc in omega arith
+  pub no_record : None ≡ record_at parsed size bytes i → ⊥
+  no_record is = go xs refl
+    where
+      go : (ys : List X) → xs ≡ ys → ⊥
+      go [] e = omega (arith, ap length e, within)
+      go (d ∷ ys) e =
+          let none : None ≡ Some (get_or xs i d) = is ∙ section_each parsed size bytes xs read i d within in
+          let z : ◌≡◌ {A = ℕ} 0 1 = cc in omega arith

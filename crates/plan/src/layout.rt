@@ -19,15 +19,11 @@ pub(crate) struct JobPart<'a> {
 fn sections(part: &[u8]) -> Result<JobPart<'_>, LayoutFault>
     ensures { MatchResult result (λ p. job_part part.now ≡ both_read (section_records task_of 16 p.tasks.bytes.now) (section_records message_of 16 p.messages.bytes.now)) (λ e. job_part part.now ≡ Err e) }
 {
-    let (tasks, rest) = match cut::<Task>(part) {
-        Ok(pair) => pair,
-        Err(fault) => return Err(LayoutFault::TasksShort(fault.whole)),
-    };
-    let (messages, rest) = match cut::<Message>(rest) {
-        Ok(pair) => pair,
-        Err(fault) => return Err(LayoutFault::MessagesShort(fault.whole)),
-    };
-    if rest.len() != 0 {
+    let (tasks, rest) = cut::<Task>(part).map_err(|off| LayoutFault::TasksShort(off.whole))?;
+    let (messages, rest) = cut::<Message>(rest).map_err(|off| LayoutFault::MessagesShort(
+        off.whole,
+    ))?;
+    if !rest.is_empty() {
         return Err(LayoutFault::Extra);
     }
     Ok(JobPart { tasks, messages })

@@ -12,7 +12,7 @@ use crate::record::{Canonical, Link, Message, Record, Route, Task};
 impl Record for Link {
     const SIZE: usize = 2;
 
-    ghost size = { 2 };
+    ghost SIZE = { 2 };
 
     ghost form = { link_form };
 
@@ -25,10 +25,6 @@ impl Record for Link {
     ghost some = { Prim.search rules };
 
     ghost back = { Prim.search rules };
-
-    fn bytes_each() -> usize {
-        Self::SIZE
-    }
 
     fn read(bytes: &[u8]) -> Option<Link> {
         Some(Link {
@@ -49,7 +45,7 @@ impl Canonical for Link {
 impl Record for Route {
     const SIZE: usize = 16;
 
-    ghost size = { 16 };
+    ghost SIZE = { 16 };
 
     ghost form = { route_form };
 
@@ -62,10 +58,6 @@ impl Record for Route {
     ghost some = { Prim.search rules };
 
     ghost back = { λ x sound. ap (λ l. Some (record { from = x.from; to = x.to; length = x.length; links = l })) (sym (list_is 12 x.links sound)) };
-
-    fn bytes_each() -> usize {
-        Self::SIZE
-    }
 
     fn read(bytes: &[u8]) -> Option<Route> {
         if bytes[3] != 0 {
@@ -114,7 +106,7 @@ impl Canonical for Route {
 impl Record for Task {
     const SIZE: usize = 16;
 
-    ghost size = { 16 };
+    ghost SIZE = { 16 };
 
     ghost form = { task_form };
 
@@ -127,10 +119,6 @@ impl Record for Task {
     ghost some = { Prim.search rules };
 
     ghost back = { Prim.search rules };
-
-    fn bytes_each() -> usize {
-        Self::SIZE
-    }
 
     fn read(bytes: &[u8]) -> Option<Task> {
         if bytes[3] != 0 {
@@ -171,7 +159,7 @@ impl Canonical for Task {
 impl Record for Message {
     const SIZE: usize = 16;
 
-    ghost size = { 16 };
+    ghost SIZE = { 16 };
 
     ghost form = { message_form };
 
@@ -184,10 +172,6 @@ impl Record for Message {
     ghost some = { Prim.search rules };
 
     ghost back = { Prim.search rules };
-
-    fn bytes_each() -> usize {
-        Self::SIZE
-    }
 
     fn read(bytes: &[u8]) -> Option<Message> {
         let kind = bytes[6];

@@ -1,16 +1,35 @@
 // The head of a plan file.
-ghost use Rattle.std.specs.Prelude.{◌≡◌, Some, None, Ok, Err, MatchOption, MatchResult};
-ghost use Rattle.records.specs.Head.{head_of, head_known, head_read, head_number};
+ghost use Rattle.std.specs.Prelude.{◌≡◌, Ok, Err, MatchResult};
+ghost use Rattle.records.specs.Head.{head_read, head_number, kind_read};
 
-// The six bytes of the head, in their order.
+// The kind of fabric that a file describes: a mesh by its head alone, a listed fabric by its links and routes.
+#[derive(Clone, Copy, PartialEq, Eq, Debug)]
+pub enum FabricKind {
+    Mesh,
+    Listed,
+}
+
+impl TryFrom<u8> for FabricKind {
+    type Error = HeadFault;
+
+    ghost try_from_gives = { λ k r. r ≡ kind_read k };
+
+    fn try_from(kind: u8) -> Result<FabricKind, HeadFault> {
+        match kind {
+            1 => Ok(FabricKind::Mesh),
+            2 => Ok(FabricKind::Listed),
+            _ => Err(HeadFault::Version),
+        }
+    }
+}
+
+// A head of version 1.
 #[derive(Clone, Copy, PartialEq, Eq, Debug)]
 pub struct Head {
-    pub version: u8,
-    pub kind: u8,
+    pub kind: FabricKind,
     pub x: u8,
     pub y: u8,
     pub delay: u8,
-    pub zero: u8,
 }
 
 // What can be wrong with a head: too short, of another version or kind, or outside the limits of its kind.
@@ -33,43 +52,22 @@ impl HeadFault {
     }
 }
 
-impl Head {
-    fn known(&self) -> bool
-        ensures { result ≡ head_known self.now }
-    {
-        self.version == 1 && (self.kind == 1 || self.kind == 2) && self.zero == 0
-    }
-}
-
-// The six bytes of the head, and what follows them.
-fn split_head(file: &[u8]) -> Option<(Head, &[u8])>
-    ensures { MatchOption result (head_of file.now ≡ None) (λ p. head_of file.now ≡ Some (p.0, p.1.now)) }
-{
-    let [version, kind, x, y, delay, zero, rest @ ..] = file else {
-        return None;
-    };
-    Some((
-        Head {
-            version: *version,
-            kind: *kind,
-            x: *x,
-            y: *y,
-            delay: *delay,
-            zero: *zero,
-        },
-        rest,
-    ))
-}
-
 // The head of a file of version 1, and what follows it.
 pub fn read_head(file: &[u8]) -> Result<(Head, &[u8]), HeadFault>
     ensures { MatchResult result (λ p. head_read file.now ≡ Ok (p.0, p.1.now)) (λ e. head_read file.now ≡ Err e) }
 {
-    let Some((head, rest)) = split_head(file) else {
+    let [version, kind, x, y, delay, zero, rest @ ..] = file else {
         return Err(HeadFault::Short);
     };
-    if !head.known() {
+    if *version != 1 || *zero != 0 {
         return Err(HeadFault::Version);
     }
+    let kind = FabricKind::try_from(*kind)?;
+    let head = Head {
+        kind,
+        x: *x,
+        y: *y,
+        delay: *delay,
+    };
     Ok((head, rest))
 }

@@ -7,8 +7,7 @@ pub trait Record: Sized {
     // The number of bytes of each record.
     const SIZE: usize;
 
-    // `SIZE`, for clauses: no clause can name an associated constant.
-    ghost size: { ℕ };
+    ghost SIZE: { ℕ };
 
     // The bytes of a record.
     ghost form: { Self → List ℕ };
@@ -19,21 +18,17 @@ pub trait Record: Sized {
     // Which values have a byte form.
     ghost sound: { Self → Type 0 };
 
-    // `SIZE`, for code that is generic: it is known to be `size` there.
-    fn bytes_each() -> usize
-        ensures { result ≡ size };
-
     fn read(bytes: &[u8]) -> Option<Self>
-        requires { length bytes.now ≡ size }
+        requires { length bytes.now ≡ SIZE }
         ensures { result ≡ parsed bytes.now };
 
     fn write(&self, out: &mut [u8])
-        requires { length out.old ≡ size }
+        requires { length out.old ≡ SIZE }
         ensures { out.new ≡ form self.now };
 
-    ghost long: { (x : Self) → length (form x) ≡ size };
+    ghost long: { (x : Self) → length (form x) ≡ SIZE };
 
-    ghost some: { 0 < size };
+    ghost some: { 0 < SIZE };
 
     // The bytes of a record read as the record.
     ghost back: { (x : Self) → sound x → parsed (form x) ≡ Some x };
@@ -41,7 +36,7 @@ pub trait Record: Sized {
 
 // A kind whose records have no bytes but their form.
 pub trait Canonical: Record {
-    ghost only: { (bs : List ℕ) (x : Self) → length bs ≡ Self.Record.size → Bytes bs → Self.Record.parsed bs ≡ Some x → Self.Record.form x ≡ bs };
+    ghost only: { (bs : List ℕ) (x : Self) → length bs ≡ Self.Record.SIZE → Bytes bs → Self.Record.parsed bs ≡ Some x → Self.Record.form x ≡ bs };
 }
 
 // A link of a listed fabric, from a node to a node.

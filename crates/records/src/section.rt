@@ -25,19 +25,19 @@ impl<'a, R: Record> Section<'a, R> {
 
     // How many whole records there are.
     pub fn count(&self) -> usize
-        ensures { result ≡ length self.now.bytes.now / R.Record.size }
+        ensures { result ≡ length self.now.bytes.now / R.Record.SIZE }
     {
-        self.bytes.len() / R::bytes_each()
+        self.bytes.len() / R::SIZE
     }
 
     // The record at a place, or none past the end or where the bytes are no record.
     pub fn get(&self, i: usize) -> Option<R>
-        ensures { result ≡ record_at R.Record.parsed R.Record.size self.now.bytes.now i }
+        ensures { result ≡ record_at R.Record.parsed R.Record.SIZE self.now.bytes.now i }
     {
         if i >= self.count() {
             return None;
         }
-        let each = R::bytes_each();
+        let each = R::SIZE;
         let at = i * each;
         R::read(&self.bytes[at..at + each])
     }
@@ -46,7 +46,7 @@ impl<'a, R: Record> Section<'a, R> {
 impl<'a, R: Record + Drop> Section<'a, R> {
     // The place of the first record whose bytes are no record of the kind.
     pub fn unread(&self) -> Option<usize>
-        ensures { result ≡ unread_place (section_records R.Record.parsed R.Record.size self.now.bytes.now) }
+        ensures { result ≡ unread_place (section_records R.Record.parsed R.Record.SIZE self.now.bytes.now) }
     {
         for i in 0..self.count() {
             if self.get(i).is_none() {
@@ -75,13 +75,13 @@ pub fn counted(file: &[u8]) -> Option<u16>
 
 // The section at the front of a file, and the rest.
 pub fn cut<'a, R: Record>(file: &'a [u8]) -> Result<(Section<'a, R>, &'a [u8]), CutOff>
-    ensures { MatchResult result (λ p. cut_of R.Record.size file.now ≡ Ok (p.0.bytes.now, p.1.now)) (λ e. cut_of R.Record.size file.now ≡ Err e.whole) }
+    ensures { MatchResult result (λ p. cut_of R.Record.SIZE file.now ≡ Ok (p.0.bytes.now, p.1.now)) (λ e. cut_of R.Record.SIZE file.now ≡ Err e.whole) }
 {
     if file.len() < 2 {
         return Err(CutOff { whole: 0 });
     }
     let n = read16(file, 0) as usize;
-    let each = R::bytes_each();
+    let each = R::SIZE;
     let fit = (file.len() - 2) / each;
     if fit < n {
         return Err(CutOff { whole: fit });

@@ -1,6 +1,8 @@
 -- The verdict on the bytes of a plan file: how many tasks and messages are held, or the first fault. Assumes nothing.
-use Rattle.std.specs.Prelude.{ℕ, cond, List, length, Ok, Err, Result, ◌==◌, nat_lt}
+use Rattle.std.specs.Prelude.{ℕ, cond, List, length, Ok, Err, Result, nat_lt}
 use Rattle.records.specs.Head.{head_read}
+use Rattle.records.specs.declared.head.FabricKind.{FabricKind}
+use Rattle.records.specs.declared.head.FabricKind.TheVariants.{Mesh as MeshKind, Listed as ListedKind}
 use Rattle.records.specs.declared.head.Head.{Head as FileHead}
 use Rattle.records.specs.declared.head.HeadFault.{HeadFault}
 use Rattle.records.specs.declared.head.HeadFault.TheVariants.{Limits}
@@ -37,10 +39,15 @@ mesh_verdict h rest = on_mesh (grid_made h.x h.y h.delay) rest
 abbrev pub listed_verdict : List ℕ → Result (ℕ × ℕ) FileFault
 listed_verdict file = then (within Fabric (setting_read file)) (λ p. judged_on (network p.0) p.1)
 
+-- a mesh is made by the head, a listed fabric by the whole file
+abbrev pub of_kind : FabricKind → List ℕ → FileHead × List ℕ → Result (ℕ × ℕ) FileFault
+of_kind MeshKind file p = mesh_verdict p.0 p.1
+of_kind ListedKind file p = listed_verdict file
+
 -- by the kind of fabric that the head names
 abbrev pub by_kind : List ℕ → Result (FileHead × List ℕ) HeadFault → Result (ℕ × ℕ) FileFault
 by_kind file (Err e) = Err (Fabric (Head e))
-by_kind file (Ok p) = cond (p.0.kind == 1) (mesh_verdict p.0 p.1) (listed_verdict file)
+by_kind file (Ok p) = of_kind p.0.kind file p
 
 -- a file has at most 8,192 bytes
 abbrev pub verdict_of : List ℕ → Result (ℕ × ℕ) FileFault

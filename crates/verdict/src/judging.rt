@@ -11,7 +11,7 @@ use fabric::Fabric;
 use fabric::mesh::Mesh;
 use listed::{Listed, SetFault, read_section};
 use plan::Plan;
-use records::head::{Head, HeadFault, read_head};
+use records::head::{FabricKind, Head, HeadFault, read_head};
 use records::record::{Link, Route};
 use refusals::line::write_line;
 use refusals::refusal::{BufferFault, Line};
@@ -63,10 +63,9 @@ fn judge_file(file: &[u8]) -> Result<(usize, usize), FileFault>
         return Err(FileFault::Extra);
     }
     let (head, rest) = read_head(file).map_err(SetFault::Head)?;
-    if head.kind == 1 {
-        judge_mesh(&head, rest)
-    } else {
-        judge_listed(file)
+    match head.kind {
+        FabricKind::Mesh => judge_mesh(&head, rest),
+        FabricKind::Listed => judge_listed(file),
     }
 }
 

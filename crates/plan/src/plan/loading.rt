@@ -1,51 +1,71 @@
 // Loads of job parts.
+ghost use Rattle.jobs.specs.Jobs.{Jobs, Setting, with_message, with_task};
+ghost use Rattle.jobs.specs.Rules.{message_refusal, offered, task_refusal};
 ghost use Rattle.plan.specs.Held.{jobs, setting};
-ghost use Rattle.plan.specs.Loading.{load, load_messages, load_tasks};
+ghost use Rattle.plan.specs.Loading.{in_turn, load};
 ghost use Rattle.plan.specs.Told.{load_told};
-ghost use Rattle.records.specs.Forms.{message_of, task_of};
 ghost use Rattle.refusals.specs.Told.{refusal_of};
 ghost use Rattle.records.specs.Sections.{section_records};
-ghost use Rattle.records.specs.declared.record.Message.{Message as MessageOf};
-ghost use Rattle.records.specs.declared.record.Task.{Task as TaskOf};
-ghost use Rattle.std.specs.Prelude.{◌≡◌, List, Ok};
+ghost use Rattle.std.specs.Prelude.{◌≡◌, List, Ok, Option};
 
 use super::Plan;
 use crate::fault::LoadFault;
 use crate::layout::layout;
 use fabric::Fabric;
 use jobs::fault::{MessageFault, TaskFault};
-use records::record::{Message, Task};
+use records::record::{Message, Record, Task};
 use records::section::Section;
 
-impl<'f, F: Fabric> Plan<'f, F> {
-    // Offers the tasks of a section in turn, up to the first that is refused.
-    fn load_tasks(&mut self, tasks: &Section<'_, Task>) -> Result<(), (usize, TaskFault)>
-        ensures answer { (ts : List TaskOf) → section_records task_of 16 tasks.now.bytes.now ≡ Ok ts → result ≡ (load_tasks (setting F.Fabric.meaning self.old) (jobs self.old) 0 ts).0 }
-        ensures after { (ts : List TaskOf) → section_records task_of 16 tasks.now.bytes.now ≡ Ok ts → jobs self.new ≡ (load_tasks (setting F.Fabric.meaning self.old) (jobs self.old) 0 ts).1 }
-        ensures fabric { self.new.fabric ≡ self.old.fabric }
-    {
-        for i in 0..tasks.count() {
-            if let Some(t) = tasks.get(i) {
-                if let Err(fault) = self.offer_task(t) {
-                    return Err((i, fault));
-                }
-            }
-        }
-        Ok(())
-    }
+// A kind of job that a load offers.
+trait Job: Record + Drop {
+    type Fault;
 
-    // Offers the messages of a section in turn, up to the first that is refused.
-    fn load_messages(
-        &mut self,
-        messages: &Section<'_, Message>,
-    ) -> Result<(), (usize, MessageFault)>
-        ensures answer { (ms : List MessageOf) → section_records message_of 16 messages.now.bytes.now ≡ Ok ms → result ≡ (load_messages (setting F.Fabric.meaning self.old) (jobs self.old) 0 ms).0 }
-        ensures after { (ms : List MessageOf) → section_records message_of 16 messages.now.bytes.now ≡ Ok ms → jobs self.new ≡ (load_messages (setting F.Fabric.meaning self.old) (jobs self.old) 0 ms).1 }
+    // The first check that refuses a job.
+    ghost refusal: { Setting → Jobs → Self → Option Self.Fault };
+
+    // What is held with one job more.
+    ghost joined: { Jobs → Self → Jobs };
+
+    fn offer_to<F: Fabric>(self, plan: &mut Plan<'_, F>) -> Result<(), Self::Fault>
+        ensures answer { result ≡ (offered (refusal (setting F.Fabric.meaning plan.old) (jobs plan.old) self) (jobs plan.old) (joined (jobs plan.old) self)).0 }
+        ensures after { jobs plan.new ≡ (offered (refusal (setting F.Fabric.meaning plan.old) (jobs plan.old) self) (jobs plan.old) (joined (jobs plan.old) self)).1 }
+        ensures fabric { plan.new.fabric ≡ plan.old.fabric };
+}
+
+impl Job for Task {
+    type Fault = TaskFault;
+
+    ghost refusal = { λ g. task_refusal g.network.nodes };
+
+    ghost joined = { with_task };
+
+    fn offer_to<F: Fabric>(self, plan: &mut Plan<'_, F>) -> Result<(), TaskFault> {
+        plan.offer_task(self)
+    }
+}
+
+impl Job for Message {
+    type Fault = MessageFault;
+
+    ghost refusal = { message_refusal };
+
+    ghost joined = { with_message };
+
+    fn offer_to<F: Fabric>(self, plan: &mut Plan<'_, F>) -> Result<(), MessageFault> {
+        plan.offer_message(self)
+    }
+}
+
+impl<'f, F: Fabric> Plan<'f, F> {
+    // Offers the jobs of a section in turn, up to the first that is refused.
+    fn load_jobs<R: Job>(&mut self, section: &Section<'_, R>) -> Result<(), (usize, R::Fault)>
+        ensures answer { (xs : List R) → section_records R.Record.parsed R.Record.SIZE section.now.bytes.now ≡ Ok xs → result ≡ (in_turn (R.Job.refusal (setting F.Fabric.meaning self.old)) R.Job.joined (jobs self.old) 0 xs).0 }
+        ensures after { (xs : List R) → section_records R.Record.parsed R.Record.SIZE section.now.bytes.now ≡ Ok xs → jobs self.new ≡ (in_turn (R.Job.refusal (setting F.Fabric.meaning self.old)) R.Job.joined (jobs self.old) 0 xs).1 }
         ensures fabric { self.new.fabric ≡ self.old.fabric }
     {
-        for i in 0..messages.count() {
-            if let Some(m) = messages.get(i) {
-                if let Err(fault) = self.offer_message(m) {
+        for i in 0..section.count() {
+            if let Some(job) = section.get(i) {
+                if let Err(fault) = job.offer_to(self) {
                     return Err((i, fault));
                 }
             }
@@ -62,8 +82,8 @@ impl<'f, F: Fabric> Plan<'f, F> {
         ensures fabric { self.new.fabric ≡ self.old.fabric }
     {
         let job = layout(part)?;
-        self.load_tasks(&job.tasks)?;
-        self.load_messages(&job.messages)?;
+        self.load_jobs(&job.tasks)?;
+        self.load_jobs(&job.messages)?;
         Ok((job.tasks.count(), job.messages.count()))
     }
 }

@@ -14,17 +14,17 @@ returns g c =
     let p = c.args.self.now in
     let s = setting g.F.Fabric.meaning p in
     let js = jobs p in
-    let mid = c.load_tasks.new.self in
+    let mid = c.load_jobs.new.self in
     let laid : LaidOut c.args.part.now c.in_ok-job.job.tasks.bytes.now c.in_ok-job.job.messages.bytes.now = c.in_ok-job.ensures in
     let ts = laid.some_tasks in
     let ms = laid.some_messages in
-    let same : setting g.F.Fabric.meaning mid ≡ s = ap (λ f. over g.F.Fabric.meaning f.now) c.load_tasks.ensures.fabric in
-    let taken : Ok c.in_ok-load_tasks.field-0 ≡ (load_tasks s js 0 ts).0 = c.in_ok-load_tasks.ensures.answer ts laid.task_records in
-    let held : jobs mid ≡ (load_tasks s js 0 ts).1 = c.load_tasks.ensures.after ts laid.task_records in
-    let sent : Ok c.in_ok-load_messages.field-0 ≡ (load_messages s (jobs mid) 0 ms).0 =
-    c.in_ok-load_messages.ensures.answer ms laid.message_records ∙ ap (λ n. (load_messages n (jobs mid) 0 ms).0) same in
-    let after : jobs c.load_messages.new.self ≡ (load_messages s (jobs mid) 0 ms).1 =
-    c.load_messages.ensures.after ms laid.message_records ∙ ap (λ n. (load_messages n (jobs mid) 0 ms).1) same in
+    let same : setting g.F.Fabric.meaning mid ≡ s = ap (λ f. over g.F.Fabric.meaning f.now) c.load_jobs.ensures.fabric in
+    let taken : Ok c.in_ok-load_jobs.field-0 ≡ (load_tasks s js 0 ts).0 = c.in_ok-load_jobs.ensures.answer ts laid.task_records in
+    let held : jobs mid ≡ (load_tasks s js 0 ts).1 = c.load_jobs.ensures.after ts laid.task_records in
+    let sent : Ok c.in_ok-load_jobs-2.field-0 ≡ (load_messages s (jobs mid) 0 ms).0 =
+    c.in_ok-load_jobs-2.ensures.answer ms laid.message_records ∙ ap (λ n. (load_messages n (jobs mid) 0 ms).0) same in
+    let after : jobs c.load_jobs-2.new.self ≡ (load_messages s (jobs mid) 0 ms).1 =
+    c.load_jobs-2.ensures.after ms laid.message_records ∙ ap (λ n. (load_messages n (jobs mid) 0 ms).1) same in
     let whole : load s js c.args.part.now ≡ (past_messages (length ts) (length ms) (load_messages s (jobs mid) 0 ms).0, (load_messages s (jobs mid) 0 ms).1) =
     ap (loaded s js) laid.whole
     ∙ ap (λ r. past_tasks s ts ms r (load_tasks s js 0 ts).1) (sym taken)
@@ -37,5 +37,5 @@ returns g c =
       answer = answer;
       told = ap (refusal_of load_told) answer;
       after = after ∙ sym (ap (λ r. r.1) whole);
-      fabric = c.load_messages.ensures.fabric ∙ c.load_tasks.ensures.fabric;
+      fabric = c.load_jobs-2.ensures.fabric ∙ c.load_jobs.ensures.fabric;
     }
