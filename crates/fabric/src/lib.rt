@@ -8,6 +8,9 @@ pub mod mesh;
 
 pub trait Fabric {
     // the longest route that this kind of fabric can give
+    const LONGEST: usize;
+
+    // `LONGEST`, for the clauses
     ghost longest: { ℕ };
 
     // the nodes, links, hop delay and routes that the answers come from
@@ -18,8 +21,9 @@ pub trait Fabric {
     // the laws and limits, which each kind of fabric shows of itself
     ghost lawful: { (s : Self) → Lawful longest (meaning s) };
 
-    // a method, since the check gives no clauses to a constant of an `impl` with a lifetime, as that of listed fabrics is
-    fn longest() -> usize
+    // `LONGEST` where code is proved from the laws: a ghost member of the constant's own name would do, but an `impl` with a
+    // lifetime, as that of listed fabrics, gets no proof of its constant
+    fn reach() -> usize
         ensures { result ≡ longest };
 
     fn nodes(&self) -> usize

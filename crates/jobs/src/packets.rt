@@ -53,7 +53,7 @@ impl Way {
         ensures { map stay_take result.items ≡ way_takes (over F.Fabric.meaning fabric.now) self.now }
     {
         let mut stays = Stays::new();
-        for place in 0..F::LONGEST {
+        for place in 0..F::reach() {
             if let Some(stay) = self.stay_on(fabric, place) {
                 stays.push(stay);
             }

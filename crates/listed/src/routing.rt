@@ -11,10 +11,10 @@ use fabric::Fabric;
 use records::record::Route;
 use records::section::Section;
 
-// A route's record has room for as many links.
-const LONGEST: usize = 12;
-
 impl<'a> Fabric for Listed<'a> {
+    // A route's record has room for as many links.
+    const LONGEST: usize = 12;
+
     ghost longest = { 12 };
 
     ghost meaning = { λ s. network (setting_of s) };
@@ -23,10 +23,10 @@ impl<'a> Fabric for Listed<'a> {
 
     ghost lawful = { λ s. listed_lawful s.nodes s.delay s.links.bytes.now s.routes.bytes.now s.sized.0 s.sized.1 s.slow s.few s.linked s.routed };
 
-    fn longest() -> usize
+    fn reach() -> usize
         ensures { result ≡ 12 }
     {
-        LONGEST
+        Self::LONGEST
     }
 
     fn nodes(&self) -> usize {

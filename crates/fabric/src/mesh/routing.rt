@@ -12,9 +12,6 @@ use super::direction::Direction;
 use super::spot::Spot;
 use super::{Mesh, SizeFault};
 
-// Seven links along x and seven along y.
-const LONGEST: usize = 14;
-
 impl Mesh {
     // A mesh of `columns` by `rows` nodes, or the refusal of a size or a delay outside the limits.
     pub fn new(columns: u8, rows: u8, delay: u8) -> Result<Mesh, SizeFault>
@@ -78,6 +75,9 @@ impl Mesh {
 }
 
 impl Fabric for Mesh {
+    // Seven links along x and seven along y.
+    const LONGEST: usize = 14;
+
     ghost longest = { 14 };
 
     ghost meaning = { mesh_of };
@@ -86,8 +86,8 @@ impl Fabric for Mesh {
 
     ghost lawful = { λ s. mesh_lawful s.columns s.rows s.delay s.wide.0 s.wide.1 s.high.0 s.high.1 s.slow };
 
-    fn longest() -> usize {
-        LONGEST
+    fn reach() -> usize {
+        Self::LONGEST
     }
 
     fn nodes(&self) -> usize {
