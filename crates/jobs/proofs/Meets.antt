@@ -1,6 +1,6 @@
 -- The earliest of several lists of meetings.
 use Rattle.std.proofs.Common.{◌≡◌, ℕ, List, [], ◌∷◌, ◌++◌, Option, refl}
-use Rattle.jobs.specs.declared.fault.Meeting.{Meeting}
+use Rattle.refusals.specs.declared.refusal.Meeting.{Meeting}
 use Rattle.jobs.specs.Meetings.{sooner, earliest_from, meetings, all_meetings, HeldJob}
 use Rattle.jobs.specs.Takes.{Take}
 

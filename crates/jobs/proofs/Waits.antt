@@ -15,7 +15,7 @@ use Rattle.holds.proofs.Pair.{clear_apart, clear_or_meet}
 use Rattle.records.specs.Named.{named}
 use Rattle.records.specs.declared.record.Message.{Message}
 use Rattle.records.specs.declared.record.Task.{Task}
-use Rattle.jobs.specs.declared.fault.Meeting.{Meeting}
+use Rattle.refusals.specs.declared.refusal.Meeting.{Meeting}
 use Rattle.jobs.specs.declared.open.OpenTask.{OpenTask}
 use Rattle.jobs.specs.declared.stay.Stay.{Stay}
 use Rattle.jobs.specs.declared.way.Way.{Way}

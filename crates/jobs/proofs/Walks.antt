@@ -7,7 +7,7 @@ use Rattle.fabric.specs.Network.{Lawful, route_place}
 use Rattle.fabric.proofs.Laws.{rest, rest_more, rest_past, no_place}
 use Rattle.records.specs.declared.record.Task.{Task}
 use Rattle.records.specs.declared.record.Message.{Message}
-use Rattle.jobs.specs.declared.fault.Meeting.{Meeting}
+use Rattle.refusals.specs.declared.refusal.Meeting.{Meeting}
 use Rattle.jobs.specs.declared.stay.Stay.{Stay}
 use Rattle.jobs.specs.declared.way.Way.{Way}
 use Rattle.jobs.specs.Jobs.{Setting}

@@ -12,7 +12,6 @@ ghost use Rattle.jobs.specs.Ways.{IsWay, stay_take, takes_of, way_slack, way_tak
 ghost use Rattle.std.specs.Option.{option_map};
 ghost use Rattle.std.specs.Prelude.{◌≡◌, ◌+◌, ◌*◌, ◌≤◌, map, Some, None, MatchOption};
 
-use crate::fault::Meeting;
 use crate::meeting::{earlier, meeting_at};
 use crate::stay::Stay;
 use crate::task;
@@ -21,6 +20,7 @@ use fabric::Fabric;
 use holds::{Deliveries, Hold, least_slack};
 use records::named::pick;
 use records::record::{Message, Task};
+use refusals::refusal::Meeting;
 
 // Whether kind, delay and width are within the limits of a message from this source.
 pub fn timely(source: &Task, m: &Message) -> bool

@@ -11,7 +11,6 @@ ghost use Rattle.jobs.specs.Takes.{core, link, task_takes};
 ghost use Rattle.jobs.specs.Waits.{AmongTakes, StillMeets, StillMet};
 ghost use Rattle.jobs.specs.Ways.{stay_take, way_takes};
 
-use crate::fault::Meeting;
 use crate::message::{first_packet_meeting, late_by, stay_on, way_between, way_of};
 use crate::open::{OpenMessage, OpenTask};
 use crate::stay::Stay;
@@ -21,6 +20,7 @@ use fabric::Fabric;
 use holds::least_wait;
 use records::named::pick;
 use records::record::{Message, Task};
+use refusals::refusal::Meeting;
 
 // By how many instants a stay must be put off to be clear of a held one, none where it never is.
 fn stay_wait(own: &Stay, held: &Stay) -> Option<u32>

@@ -7,11 +7,11 @@ ghost use Rattle.jobs.specs.Ways.{stay_take};
 ghost use Rattle.std.specs.Option.{option_map};
 ghost use Rattle.std.specs.Prelude.{◌≡◌, map};
 
-use crate::fault::Meeting;
 use crate::meeting::{earlier, meeting_at};
 use crate::stay::Stay;
 use holds::Hold;
 use records::record::Task;
+use refusals::refusal::Meeting;
 
 // Whether period, width and phase are within the limits of a task.
 pub fn timely(t: &Task) -> bool

@@ -71,17 +71,11 @@ impl<'a> Listed<'a> {
         ensures refused { is_ok result ≡ false → self.new ≡ self.old }
     {
         let (head, body) = read_listed_head(file)?;
-        let (links, tail) = match read_section::<Link>(body, 128) {
-            Ok(parts) => parts,
-            Err(fault) => return Err(SetFault::Links(fault)),
-        };
+        let (links, tail) = read_section::<Link>(body, 128).map_err(SetFault::Links)?;
         if let Some(fault) = first_of_links(head.x, links) {
             return Err(fault);
         }
-        let (routes, rest) = match read_section::<Route>(tail, 256) {
-            Ok(parts) => parts,
-            Err(fault) => return Err(SetFault::Routes(fault)),
-        };
+        let (routes, rest) = read_section::<Route>(tail, 256).map_err(SetFault::Routes)?;
         if let Some(fault) = first_of_routes(head.x, links, routes) {
             return Err(fault);
         }

@@ -1,15 +1,13 @@
 -- Past the checks that leave phase and delay out, a value is taken exactly where it is neither late nor meets anything.
-use Rattle.std.proofs.Common.{◌≡◌, ℕ, ◌+◌, ◌-◌, ◌<◌, not, leb, map, length, Some, None, Err, Option, sym, refl, ap, ◌∙◌, arith}
-use Rattle.std.specs.Option.{option_map}
+use Rattle.std.proofs.Common.{◌≡◌, ℕ, ◌+◌, ◌-◌, ◌<◌, not, leb, map, length, Some, None, Option, sym, refl, ap, ◌∙◌, arith}
+use Rattle.std.specs.Option.{ok_or, option_map}
 use Rattle.std.proofs.lemmas.Bool.{cond-false, lt-leb}
 use Rattle.std.proofs.lemmas.Bool.Decides.{nat_tests}
 use Rattle.holds.specs.Search.{first_from}
 use Rattle.records.specs.declared.record.Task.{Task}
 use Rattle.jobs.specs.declared.fault.TaskFault.{TaskFault}
 use Rattle.jobs.specs.declared.fault.TaskFault.TheVariants as task_fault
-use Rattle.jobs.specs.declared.fault.MessageFault.{MessageFault}
-use Rattle.jobs.specs.declared.fault.MessagePlacingFault.{MessagePlacingFault}
-use Rattle.jobs.specs.declared.fault.TaskPlacingFault.{TaskPlacingFault}
+use Rattle.jobs.specs.declared.fault.PlacingFault.TheVariants as placing
 use Rattle.jobs.specs.declared.open.OpenTask.{OpenTask}
 use Rattle.jobs.specs.declared.open.OpenMessage.{OpenMessage}
 use Rattle.jobs.specs.Jobs.{Setting, Jobs, task_name}
@@ -81,15 +79,11 @@ module _ (g : Setting) (js : Jobs) (m : OpenMessage) (s d : Task) (p : MessagePa
       ap (λ c. message_placed js m c (first_delay g js m)) (passed g js (message_at m 0) s d p (λ s d r. None))
       ∙ ap (message_placed js m None) (sym e)
 
--- a refused placing leaves what was held
-pub task_stays : (js : Jobs) (t : OpenTask) (c : Option TaskFault) (o : Option ℕ) (e : TaskPlacingFault)
-    → Err e ≡ (task_placed js t c o).0 → js ≡ (task_placed js t c o).1
-task_stays js t (Some x) o e is = refl
-task_stays js t None None e is = refl
-task_stays js t None (Some v) e is = let z : ◌≡◌ {A = ℕ} 0 1 = cc in absurd (omega arith)
+-- past the checks a placing answers the value that is found, or that none fits
+pub task_found : (js : Jobs) (t : OpenTask) (o : Option ℕ) → ok_or o placing.NoFit ≡ (task_placed js t None o).0
+task_found js t None = refl
+task_found js t (Some v) = refl
 
-pub message_stays : (js : Jobs) (m : OpenMessage) (c : Option MessageFault) (o : Option ℕ) (e : MessagePlacingFault)
-    → Err e ≡ (message_placed js m c o).0 → js ≡ (message_placed js m c o).1
-message_stays js m (Some x) o e is = refl
-message_stays js m None None e is = refl
-message_stays js m None (Some v) e is = let z : ◌≡◌ {A = ℕ} 0 1 = cc in absurd (omega arith)
+pub message_found : (js : Jobs) (m : OpenMessage) (o : Option ℕ) → ok_or o placing.NoFit ≡ (message_placed js m None o).0
+message_found js m None = refl
+message_found js m (Some v) = refl
