@@ -5,6 +5,7 @@
 ghost use Rattle.std.specs.Prelude.{◌<◌, ◌≤◌, length};
 
 use anyhow::anyhow;
+use refusals::refusal::Refusal;
 use refusals::words::word;
 use std::io::{BufRead, BufReader, Write};
 use verdict::judge;
@@ -47,7 +48,7 @@ fn show<W: Write>(out: &mut W, room: usize, text: &str) -> anyhow::Result<()> {
     match judge(&file[0..size], line) {
         Ok(end) => out.write_all(&line[0..end])?,
         Err(fault) => {
-            let number = fault.told().number;
+            let number = Refusal::from(fault).number;
             write!(out, "{number} ")?;
             out.write_all(word(number))?;
             out.write_all(b"\n")?;

@@ -10,7 +10,7 @@ use Rattle.holds.specs.Slack.{Flow}
 use Rattle.holds.specs.Span.{Span}
 use Rattle.records.specs.declared.record.Message.{Message}
 use Rattle.records.specs.declared.record.Task.{Task}
-use Rattle.jobs.specs.declared.fault.Meeting.{Meeting}
+use Rattle.refusals.specs.declared.refusal.Meeting.{Meeting}
 use Rattle.jobs.specs.declared.fault.MessageFault.TheVariants as message_fault
 use Rattle.jobs.specs.declared.open.OpenMessage.{OpenMessage}
 use Rattle.jobs.specs.declared.way.Way.{Way}

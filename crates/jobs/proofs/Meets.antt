@@ -1,7 +1,7 @@
 -- The earliest of several lists of meetings.
 use Rattle.std.proofs.Common.{◌≡◌, ℕ, List, [], ◌∷◌, ◌++◌, map, Option, sym, refl, ◌∙◌}
 use Rattle.std.specs.List.{fold}
-use Rattle.jobs.specs.declared.fault.Meeting.{Meeting}
+use Rattle.refusals.specs.declared.refusal.Meeting.{Meeting}
 use Rattle.jobs.specs.Meetings.{sooner, earliest_from, met, meetings, all_meetings, HeldJob}
 use Rattle.jobs.specs.Takes.{Take}
 

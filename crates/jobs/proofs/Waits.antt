@@ -13,7 +13,7 @@ use Rattle.holds.proofs.First.{first_is}
 use Rattle.holds.proofs.Limits.{proper}
 use Rattle.holds.proofs.Pair.{clear_apart, clear_or_meet}
 use Rattle.records.specs.Named.{named}
-use Rattle.jobs.specs.declared.fault.Meeting.{Meeting}
+use Rattle.refusals.specs.declared.refusal.Meeting.{Meeting}
 use Rattle.jobs.specs.declared.open.OpenTask.{OpenTask}
 use Rattle.jobs.specs.declared.stay.Stay.{Stay}
 use Rattle.jobs.specs.Meetings.{HeldJob, all_meetings, at_instant, before, earliest_from, first_met, meetings, met, sooner}

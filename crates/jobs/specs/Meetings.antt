@@ -5,7 +5,7 @@ use Rattle.holds.specs.Span.{Span}
 use Rattle.holds.specs.First.{first}
 use Rattle.records.specs.declared.record.Task.{Task}
 use Rattle.records.specs.declared.record.Message.{Message}
-use Rattle.jobs.specs.declared.fault.Meeting.{Meeting}
+use Rattle.refusals.specs.declared.refusal.Meeting.{Meeting}
 use Rattle.jobs.specs.Jobs.{Setting}
 use Rattle.jobs.specs.declared.place.Place.{Place}
 use Rattle.jobs.specs.Takes.{number, same_place, Take, task_takes, message_takes}

@@ -3,22 +3,20 @@ use Rattle.std.specs.Prelude.{ℕ}
 use Rattle.refusals.specs.Told.{plain}
 use Rattle.refusals.specs.declared.refusal.Refusal.{Refusal}
 use Rattle.refusals.specs.declared.refusal.Detail.TheVariants as detail
-use Rattle.jobs.specs.declared.fault.Meeting.{Meeting}
+use Rattle.refusals.specs.declared.refusal.Meeting.{Meeting}
 use Rattle.jobs.specs.declared.fault.TaskFault.{TaskFault}
 use Rattle.jobs.specs.declared.fault.TaskFault.TheVariants as task_fault
 use Rattle.jobs.specs.declared.fault.MessageFault.{MessageFault}
 use Rattle.jobs.specs.declared.fault.MessageFault.TheVariants as message_fault
-use Rattle.jobs.specs.declared.fault.TaskPlacingFault.{TaskPlacingFault}
-use Rattle.jobs.specs.declared.fault.TaskPlacingFault.TheVariants as task_placing
-use Rattle.jobs.specs.declared.fault.MessagePlacingFault.{MessagePlacingFault}
-use Rattle.jobs.specs.declared.fault.MessagePlacingFault.TheVariants as message_placing
+use Rattle.jobs.specs.declared.fault.PlacingFault.{PlacingFault}
+use Rattle.jobs.specs.declared.fault.PlacingFault.TheVariants as placing
 use Rattle.jobs.specs.declared.fault.DropFault.{DropFault}
 use Rattle.jobs.specs.declared.fault.PlaceFault.{PlaceFault}
 use Rattle.jobs.specs.declared.fault.DropFault.TheVariants as drop_fault
 
 -- a refusal with the first meeting: its instant, the held name and the place
 abbrev pub meets : ℕ → Meeting → Refusal
-meets n m = record { number = n; detail = detail.Meeting m.instant m.held m.place }
+meets n m = record { number = n; detail = detail.Meeting m }
 
 abbrev pub task_told : TaskFault → Refusal
 task_told task_fault.Name = plain 9
@@ -37,13 +35,9 @@ message_told (message_fault.Late v) = record { number = 19; detail = detail.Slac
 message_told (message_fault.Meets m) = meets 20 m
 
 -- a placing tells what the offer's check tells, or that no value works
-abbrev pub task_placing_told : TaskPlacingFault → Refusal
-task_placing_told (task_placing.Offer e) = task_told e
-task_placing_told task_placing.NoFit = plain 23
-
-abbrev pub message_placing_told : MessagePlacingFault → Refusal
-message_placing_told (message_placing.Offer e) = message_told e
-message_placing_told message_placing.NoFit = plain 23
+abbrev pub placing_told : {E : Type 0} → (E → Refusal) → PlacingFault E → Refusal
+placing_told tell (placing.Offer e) = tell e
+placing_told tell placing.NoFit = plain 23
 
 abbrev pub drop_told : DropFault → Refusal
 drop_told drop_fault.Unknown = plain 21

@@ -6,10 +6,8 @@ use Rattle.records.specs.declared.record.Message.{Message}
 use Rattle.jobs.specs.declared.fault.TaskFault.{TaskFault}
 use Rattle.jobs.specs.declared.fault.MessageFault.{MessageFault}
 use Rattle.jobs.specs.declared.fault.MessageFault.TheVariants as message_fault
-use Rattle.jobs.specs.declared.fault.TaskPlacingFault.{TaskPlacingFault}
-use Rattle.jobs.specs.declared.fault.TaskPlacingFault.TheVariants as task_placing
-use Rattle.jobs.specs.declared.fault.MessagePlacingFault.{MessagePlacingFault}
-use Rattle.jobs.specs.declared.fault.MessagePlacingFault.TheVariants as message_placing
+use Rattle.jobs.specs.declared.fault.PlacingFault.{PlacingFault}
+use Rattle.jobs.specs.declared.fault.PlacingFault.TheVariants as placing
 use Rattle.jobs.specs.declared.open.OpenTask.{OpenTask}
 use Rattle.jobs.specs.declared.open.OpenMessage.{OpenMessage}
 use Rattle.jobs.specs.Jobs.{Setting, Jobs, task_named, with_task, with_message}
@@ -29,13 +27,13 @@ abbrev pub first_phase : Setting → Jobs → OpenTask → Option ℕ
 first_phase g js t = first_from (λ v. clear (task_refusal g.network.nodes js (task_at t v))) (t.period + 1 - t.width) 0
 
 -- by the checks that come before meetings, and that phase
-abbrev pub task_placed : Jobs → OpenTask → Option TaskFault → Option ℕ → Result ℕ TaskPlacingFault × Jobs
-task_placed js t (Some e) v = (Err (task_placing.Offer e), js)
-task_placed js t None None = (Err task_placing.NoFit, js)
+abbrev pub task_placed : Jobs → OpenTask → Option TaskFault → Option ℕ → Result ℕ (PlacingFault TaskFault) × Jobs
+task_placed js t (Some e) v = (Err (placing.Offer e), js)
+task_placed js t None None = (Err placing.NoFit, js)
 task_placed js t None (Some v) = (Ok v, with_task js (task_at t v))
 
 -- the checks leave the phase out: phase 0 is within the limits wherever some phase is
-abbrev pub place_task : Setting → Jobs → OpenTask → Result ℕ TaskPlacingFault × Jobs
+abbrev pub place_task : Setting → Jobs → OpenTask → Result ℕ (PlacingFault TaskFault) × Jobs
 place_task g js t = task_placed js t (task_checks g.network.nodes js (task_at t 0) None) (first_phase g js t)
 
 -- ---- messages: delays from 0 to below the source's period
@@ -54,11 +52,11 @@ abbrev pub first_delay : Setting → Jobs → OpenMessage → Option ℕ
 first_delay g js m = first_from (λ v. clear (message_refusal g js (message_at m v))) (delays (task_named js.tasks m.source)) 0
 
 -- by the checks that come before lateness and meetings, and that delay
-abbrev pub message_placed : Jobs → OpenMessage → Option MessageFault → Option ℕ → Result ℕ MessagePlacingFault × Jobs
-message_placed js m (Some e) v = (Err (message_placing.Offer e), js)
-message_placed js m None None = (Err message_placing.NoFit, js)
+abbrev pub message_placed : Jobs → OpenMessage → Option MessageFault → Option ℕ → Result ℕ (PlacingFault MessageFault) × Jobs
+message_placed js m (Some e) v = (Err (placing.Offer e), js)
+message_placed js m None None = (Err placing.NoFit, js)
 message_placed js m None (Some v) = (Ok v, with_message js (message_at m v))
 
 -- the checks leave the delay out: delay 0 is within the limits wherever some delay is
-abbrev pub place_message : Setting → Jobs → OpenMessage → Result ℕ MessagePlacingFault × Jobs
+abbrev pub place_message : Setting → Jobs → OpenMessage → Result ℕ (PlacingFault MessageFault) × Jobs
 place_message g js m = message_placed js m (message_checks g js (message_at m 0) (λ s d r. None)) (first_delay g js m)

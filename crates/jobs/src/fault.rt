@@ -1,18 +1,9 @@
 // Why an offer is refused, and the number of each refusal.
-ghost use Rattle.jobs.specs.Numbers.{drop_told, meets, message_placing_told, message_told, place_told, task_placing_told, task_told};
+ghost use Rattle.jobs.specs.Numbers.{drop_told, meets, message_told, place_told, placing_told, task_told};
+ghost use Rattle.refusals.specs.declared.refusal.Refusal.{Refusal as RefusalOf};
 ghost use Rattle.std.specs.Prelude.{◌≡◌};
 
-use refusals::refusal::{Detail, Refusal};
-
-// The first instant at which an offered job and a held one share a place.
-#[derive(Clone, Copy, PartialEq, Eq, Debug)]
-pub struct Meeting {
-    pub instant: u64,
-    // the name of the held job
-    pub held: u16,
-    // the number of the core or link
-    pub place: u16,
-}
+use refusals::refusal::{Detail, Meeting, Refusal};
 
 #[derive(Clone, Copy, PartialEq, Eq, Debug)]
 pub enum TaskFault {
@@ -46,21 +37,12 @@ pub enum MessageFault {
     Meets(Meeting),
 }
 
-// Why a placing of a task is refused.
+// Why a placing is refused.
 #[derive(Clone, Copy, PartialEq, Eq, Debug)]
-pub enum TaskPlacingFault {
-    // a check of the offer that is tried before meetings
-    Offer(TaskFault),
-    // no phase works
-    NoFit,
-}
-
-// Why a placing of a message is refused.
-#[derive(Clone, Copy, PartialEq, Eq, Debug)]
-pub enum MessagePlacingFault {
+pub enum PlacingFault<E> {
     // a check of the offer that is tried before lateness and meetings
-    Offer(MessageFault),
-    // no delay works
+    Offer(E),
+    // no phase or delay works
     NoFit,
 }
 
@@ -77,49 +59,43 @@ pub enum DropFault {
 #[derive(Clone, Copy, PartialEq, Eq, Debug)]
 pub struct PlaceFault;
 
-impl PlaceFault {
-    pub fn told(self) -> Refusal
-        ensures { result ≡ place_told self }
-    {
+impl From<PlaceFault> for Refusal {
+    ghost from_gives = { λ e r. r ≡ place_told e };
+
+    fn from(_: PlaceFault) -> Refusal {
         Refusal::plain(26)
     }
 }
 
-impl Meeting {
-    // The refusal that names this meeting.
-    fn told(self, number: u8) -> Refusal
-        ensures { result ≡ meets number self }
-    {
-        Refusal {
-            number,
-            detail: Detail::Meeting {
-                instant: self.instant,
-                held: self.held,
-                place: self.place,
-            },
-        }
+// The refusal of this number that names a meeting.
+fn meets(number: u8, meeting: Meeting) -> Refusal
+    ensures { result ≡ meets number meeting }
+{
+    Refusal {
+        number,
+        detail: Detail::Meeting(meeting),
     }
 }
 
-impl TaskFault {
-    pub fn told(self) -> Refusal
-        ensures { result ≡ task_told self }
-    {
-        match self {
+impl From<TaskFault> for Refusal {
+    ghost from_gives = { λ e r. r ≡ task_told e };
+
+    fn from(fault: TaskFault) -> Refusal {
+        match fault {
             TaskFault::Name => Refusal::plain(9),
             TaskFault::Core => Refusal::plain(10),
             TaskFault::Times => Refusal::plain(11),
             TaskFault::Full => Refusal::plain(12),
-            TaskFault::Meets(meeting) => meeting.told(13),
+            TaskFault::Meets(meeting) => meets(13, meeting),
         }
     }
 }
 
-impl MessageFault {
-    pub fn told(self) -> Refusal
-        ensures { result ≡ message_told self }
-    {
-        match self {
+impl From<MessageFault> for Refusal {
+    ghost from_gives = { λ e r. r ≡ message_told e };
+
+    fn from(fault: MessageFault) -> Refusal {
+        match fault {
             MessageFault::Name => Refusal::plain(14),
             MessageFault::Ends => Refusal::plain(15),
             MessageFault::Times => Refusal::plain(16),
@@ -129,38 +105,28 @@ impl MessageFault {
                 number: 19,
                 detail: Detail::Slack(slack),
             },
-            MessageFault::Meets(meeting) => meeting.told(20),
+            MessageFault::Meets(meeting) => meets(20, meeting),
         }
     }
 }
 
-impl TaskPlacingFault {
-    pub fn told(self) -> Refusal
-        ensures { result ≡ task_placing_told self }
-    {
-        match self {
-            TaskPlacingFault::Offer(fault) => fault.told(),
-            TaskPlacingFault::NoFit => Refusal::plain(23),
+// Whatever tells the fault of an offer tells that of its placing.
+impl<E: Into<Refusal>> From<PlacingFault<E>> for Refusal {
+    ghost from_gives = { λ e r. (tell : E → RefusalOf) → ((x : E) (s : RefusalOf) → E.converts x s → s ≡ tell x) → r ≡ placing_told tell e };
+
+    fn from(fault: PlacingFault<E>) -> Refusal {
+        match fault {
+            PlacingFault::Offer(fault) => fault.into(),
+            PlacingFault::NoFit => Refusal::plain(23),
         }
     }
 }
 
-impl MessagePlacingFault {
-    pub fn told(self) -> Refusal
-        ensures { result ≡ message_placing_told self }
-    {
-        match self {
-            MessagePlacingFault::Offer(fault) => fault.told(),
-            MessagePlacingFault::NoFit => Refusal::plain(23),
-        }
-    }
-}
+impl From<DropFault> for Refusal {
+    ghost from_gives = { λ e r. r ≡ drop_told e };
 
-impl DropFault {
-    pub fn told(self) -> Refusal
-        ensures { result ≡ drop_told self }
-    {
-        match self {
+    fn from(fault: DropFault) -> Refusal {
+        match fault {
             DropFault::Unknown => Refusal::plain(21),
             DropFault::InUse => Refusal::plain(22),
         }

@@ -1,17 +1,17 @@
 // The first meeting of an offered job with those held.
 ghost use Rattle.holds.specs.Held.{span};
 ghost use Rattle.jobs.specs.Boards.{job_of, setting_of};
-ghost use Rattle.jobs.specs.Meetings.{before, earliest_from, first_met, meetings, met, shared, sooner};
+ghost use Rattle.jobs.specs.Meetings.{earliest_from, first_met, meetings, met, shared, sooner};
 ghost use Rattle.jobs.specs.Ways.{stay_take};
 ghost use Rattle.std.specs.Option.{option_map};
 ghost use Rattle.std.specs.Prelude.{◌≡◌, map};
 
 use crate::board::Board;
-use crate::fault::Meeting;
 use crate::job::Job;
 use crate::stay::Stay;
 use fabric::Fabric;
 use holds::{Hold, first_meeting};
+use refusals::refusal::Meeting;
 
 // The first instant that lies in both.
 fn shared_instant(one: Option<Hold>, other: Option<Hold>) -> Option<u64>
@@ -35,28 +35,13 @@ pub(crate) fn meeting_at(name: u16, own: &Stay, held: &Stay) -> Option<Meeting>
     })
 }
 
-// Whether `one` comes before `other`: by the instant, then by the held name, then by the place.
-fn comes_before(one: &Meeting, other: &Meeting) -> bool
-    ensures { result ≡ before one.now other.now }
-{
-    one.instant < other.instant
-        || one.instant == other.instant
-            && (one.held < other.held || one.held == other.held && one.place < other.place)
-}
-
 // The earlier of two meetings.
 fn earlier(one: Option<Meeting>, other: Option<Meeting>) -> Option<Meeting>
     ensures { result ≡ sooner one other }
 {
     match (one, other) {
-        (Some(a), Some(b)) => {
-            if comes_before(&b, &a) {
-                Some(b)
-            } else {
-                Some(a)
-            }
-        }
-        (Some(a), None) => Some(a),
+        (Some(a), Some(b)) if b < a => Some(b),
+        (Some(a), _) => Some(a),
         (None, _) => other,
     }
 }

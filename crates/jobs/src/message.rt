@@ -10,13 +10,13 @@ ghost use Rattle.jobs.specs.Ways.{takes_of, way_slack, way_takes};
 ghost use Rattle.std.specs.Prelude.{◌≡◌, ◌≤◌, map};
 
 use crate::board::Board;
-use crate::fault::Meeting;
 use crate::meeting::first_among;
 use crate::task;
 use crate::way::Way;
 use fabric::Fabric;
 use holds::{Deliveries, least_slack};
 use records::record::{Message, Task};
+use refusals::refusal::Meeting;
 
 // Whether kind, delay and width are within the limits of a message from this source.
 pub fn timely(source: &Task, m: &Message) -> bool

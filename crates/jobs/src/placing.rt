@@ -12,7 +12,6 @@ ghost use Rattle.jobs.specs.Waits.{Among, StillMeets, StillMet};
 ghost use Rattle.jobs.specs.Ways.{stay_take};
 
 use crate::board::{Board, Ends};
-use crate::fault::Meeting;
 use crate::job::Job;
 use crate::message::late_by;
 use crate::open::{OpenMessage, OpenTask};
@@ -22,6 +21,7 @@ use crate::way::Way;
 use fabric::Fabric;
 use holds::least_wait;
 use records::named::pick;
+use refusals::refusal::Meeting;
 
 // By how many instants a stay must be put off to be clear of a held one, none where it never is.
 fn stay_wait(own: &Stay, held: &Stay) -> Option<u32>

@@ -8,13 +8,13 @@ ghost use Rattle.std.specs.Option.{option_map};
 ghost use Rattle.std.specs.Prelude.{◌≡◌, map};
 
 use crate::board::Board;
-use crate::fault::Meeting;
 use crate::meeting::first_among;
 use crate::place::Place;
 use crate::stay::Stay;
 use fabric::Fabric;
 use holds::Hold;
 use records::record::Task;
+use refusals::refusal::Meeting;
 
 // Whether period, width and phase are within the limits of a task.
 pub fn timely(t: &Task) -> bool

@@ -11,6 +11,7 @@ const LINKS: u8 = 1;
 
 const ROUTES: u8 = 2;
 
+// The section stands beside the fault, so this is no `From`.
 impl SectionFault {
     pub fn told(self, section: u8) -> Told
         ensures { result ≡ section_told section self }
@@ -22,11 +23,11 @@ impl SectionFault {
     }
 }
 
-impl SetFault {
-    pub fn told(self) -> Told
-        ensures { result ≡ set_told self }
-    {
-        match self {
+impl From<SetFault> for Told {
+    ghost from_gives = { λ e r. r ≡ set_told e };
+
+    fn from(fault: SetFault) -> Told {
+        match fault {
             SetFault::Head(fault) => Told::new(HEAD, 0, Refusal::plain(fault.number())),
             SetFault::Links(fault) => fault.told(LINKS),
             SetFault::Link(place) => Told::new(LINKS, place, Refusal::plain(5)),

@@ -8,10 +8,8 @@ use Rattle.records.specs.declared.record.Task.{Task}
 use Rattle.jobs.specs.declared.fault.TaskFault.{TaskFault}
 use Rattle.jobs.specs.declared.fault.TaskFault.TheVariants as task_fault
 use Rattle.jobs.specs.declared.fault.MessageFault.{MessageFault}
-use Rattle.jobs.specs.declared.fault.MessagePlacingFault.{MessagePlacingFault}
-use Rattle.jobs.specs.declared.fault.MessagePlacingFault.TheVariants as message_placing
-use Rattle.jobs.specs.declared.fault.TaskPlacingFault.TheVariants as task_placing
-use Rattle.jobs.specs.declared.fault.TaskPlacingFault.{TaskPlacingFault}
+use Rattle.jobs.specs.declared.fault.PlacingFault.{PlacingFault}
+use Rattle.jobs.specs.declared.fault.PlacingFault.TheVariants as placing
 use Rattle.jobs.specs.declared.open.OpenTask.{OpenTask}
 use Rattle.jobs.specs.declared.open.OpenMessage.{OpenMessage}
 use Rattle.jobs.specs.Jobs.{Setting, Jobs, task_name}
@@ -84,23 +82,23 @@ module _ (g : Setting) (js : Jobs) (m : OpenMessage) (s d : Task) (p : MessagePa
       ∙ ap (message_placed js m None) (sym e)
 
 -- a refused placing leaves what was held
-pub task_stays : (js : Jobs) (t : OpenTask) (c : Option TaskFault) (o : Option ℕ) (e : TaskPlacingFault)
+pub task_stays : (js : Jobs) (t : OpenTask) (c : Option TaskFault) (o : Option ℕ) (e : PlacingFault TaskFault)
     → Err e ≡ (task_placed js t c o).0 → js ≡ (task_placed js t c o).1
 task_stays js t (Some x) o e is = refl
 task_stays js t None None e is = refl
 task_stays js t None (Some v) e is = let z : ◌≡◌ {A = ℕ} 0 1 = cc in absurd (omega arith)
 
-pub message_stays : (js : Jobs) (m : OpenMessage) (c : Option MessageFault) (o : Option ℕ) (e : MessagePlacingFault)
+pub message_stays : (js : Jobs) (m : OpenMessage) (c : Option MessageFault) (o : Option ℕ) (e : PlacingFault MessageFault)
     → Err e ≡ (message_placed js m c o).0 → js ≡ (message_placed js m c o).1
 message_stays js m (Some x) o e is = refl
 message_stays js m None None e is = refl
 message_stays js m None (Some v) e is = let z : ◌≡◌ {A = ℕ} 0 1 = cc in absurd (omega arith)
 
 -- past the checks a placing answers the value, or that none fits
-pub task_answers : (js : Jobs) (t : OpenTask) (o : Option ℕ) → (task_placed js t None o).0 ≡ ok_or o task_placing.NoFit
+pub task_answers : (js : Jobs) (t : OpenTask) (o : Option ℕ) → (task_placed js t None o).0 ≡ ok_or o placing.NoFit
 task_answers js t None = refl
 task_answers js t (Some v) = refl
 
-pub message_answers : (js : Jobs) (m : OpenMessage) (o : Option ℕ) → (message_placed js m None o).0 ≡ ok_or o message_placing.NoFit
+pub message_answers : (js : Jobs) (m : OpenMessage) (o : Option ℕ) → (message_placed js m None o).0 ≡ ok_or o placing.NoFit
 message_answers js m None = refl
 message_answers js m (Some v) = refl

@@ -59,11 +59,11 @@ impl From<(usize, MessageFault)> for LoadFault {
     }
 }
 
-impl LayoutFault {
-    fn told(self) -> Told
-        ensures { result ≡ layout_told self }
-    {
-        match self {
+impl From<LayoutFault> for Told {
+    ghost from_gives = { λ e r. r ≡ layout_told e };
+
+    fn from(fault: LayoutFault) -> Told {
+        match fault {
             LayoutFault::TasksShort(whole) => Told::new(TASKS, whole, Refusal::plain(1)),
             LayoutFault::MessagesShort(whole) => Told::new(MESSAGES, whole, Refusal::plain(1)),
             LayoutFault::Extra => Told::new(END, 0, Refusal::plain(25)),
@@ -73,14 +73,14 @@ impl LayoutFault {
     }
 }
 
-impl LoadFault {
-    pub fn told(self) -> Told
-        ensures { result ≡ load_told self }
-    {
-        match self {
-            LoadFault::Layout(fault) => fault.told(),
-            LoadFault::Task(place, fault) => Told::new(TASKS, place, fault.told()),
-            LoadFault::Message(place, fault) => Told::new(MESSAGES, place, fault.told()),
+impl From<LoadFault> for Told {
+    ghost from_gives = { λ e r. r ≡ load_told e };
+
+    fn from(fault: LoadFault) -> Told {
+        match fault {
+            LoadFault::Layout(fault) => fault.into(),
+            LoadFault::Task(place, fault) => Told::new(TASKS, place, fault.into()),
+            LoadFault::Message(place, fault) => Told::new(MESSAGES, place, fault.into()),
         }
     }
 }

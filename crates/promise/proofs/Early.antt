@@ -7,8 +7,7 @@ use Rattle.jobs.specs.declared.fault.TaskFault.{TaskFault}
 use Rattle.jobs.specs.declared.fault.TaskFault.TheVariants as task_fault
 use Rattle.jobs.specs.declared.fault.MessageFault.{MessageFault}
 use Rattle.jobs.specs.declared.fault.MessageFault.TheVariants as message_fault
-use Rattle.jobs.specs.declared.fault.TaskPlacingFault.TheVariants as task_placing
-use Rattle.jobs.specs.declared.fault.MessagePlacingFault.TheVariants as message_placing
+use Rattle.jobs.specs.declared.fault.PlacingFault.TheVariants as placing
 use Rattle.jobs.specs.declared.open.OpenTask.{OpenTask}
 use Rattle.jobs.specs.declared.open.OpenMessage.{OpenMessage}
 use Rattle.jobs.specs.Open.{message_at, task_at}
@@ -135,41 +134,41 @@ message_answer g most few laws js m clean =
 
 -- a placing is answered by an earlier fault exactly where one of their conditions holds
 pub task_place_early : (g : Setting) (js : Jobs) (t : OpenTask) → Clean g js
-    → ((e : TaskFault) × ((place_task g js t).0 ≡ Err (task_placing.Offer e))) ↔ (TaskPassed g js (task_at t 0) → ⊥)
+    → ((e : TaskFault) × ((place_task g js t).0 ≡ Err (placing.Offer e))) ↔ (TaskPassed g js (task_at t 0) → ⊥)
 task_place_early g js t clean = (
   λ x p. refused x.0 (first_phase g js t) x.1 (task_passed g.network.nodes js (task_at t 0) (past g js (task_at t 0) clean p) None),
   λ broken. go (task_checks g.network.nodes js (task_at t 0) None) refl broken,
 )
   where
-    none_first : (e : TaskFault) (o : Option ℕ) → (task_placed js t None o).0 ≡ Err (task_placing.Offer e) → ⊥
+    none_first : (e : TaskFault) (o : Option ℕ) → (task_placed js t None o).0 ≡ Err (placing.Offer e) → ⊥
     none_first e None is = let z : ◌≡◌ {A = ℕ} 0 1 = cc in omega arith
     none_first e (Some v) is = let z : ◌≡◌ {A = ℕ} 0 1 = cc in omega arith
 
-    refused : (e : TaskFault) (o : Option ℕ) → (task_placed js t (task_checks g.network.nodes js (task_at t 0) None) o).0 ≡ Err (task_placing.Offer e)
+    refused : (e : TaskFault) (o : Option ℕ) → (task_placed js t (task_checks g.network.nodes js (task_at t 0) None) o).0 ≡ Err (placing.Offer e)
         → task_checks g.network.nodes js (task_at t 0) None ≡ None → ⊥
     refused e o is none = none_first e o (ap (λ c. (task_placed js t c o).0) (sym none) ∙ is)
 
     go : (c : Option TaskFault) → task_checks g.network.nodes js (task_at t 0) None ≡ c → (TaskPassed g js (task_at t 0) → ⊥)
-        → (e : TaskFault) × ((place_task g js t).0 ≡ Err (task_placing.Offer e))
+        → (e : TaskFault) × ((place_task g js t).0 ≡ Err (placing.Offer e))
     go None is broken = absurd (broken (task_passes g js (task_at t 0) None is).0)
     go (Some e) is broken = (e, ap (λ c. (task_placed js t c (first_phase g js t)).0) is)
 
 pub message_place_early : (g : Setting) (most : ℕ) → most ≤ 64 → Lawful most g.network → (js : Jobs) (m : OpenMessage) → Clean g js
-    → ((e : MessageFault) × ((place_message g js m).0 ≡ Err (message_placing.Offer e))) ↔ ((s d : Task) (r : List ℕ) → MessagePassed g js (message_at m 0) s d r → ⊥)
+    → ((e : MessageFault) × ((place_message g js m).0 ≡ Err (placing.Offer e))) ↔ ((s d : Task) (r : List ℕ) → MessagePassed g js (message_at m 0) s d r → ⊥)
 message_place_early g most few laws js m clean = (
   λ x s d r p. refused x.0 (first_delay g js m) x.1 (passed g js (message_at m 0) s d (message_past g most few laws js (message_at m 0) s d r clean p) (λ s d r. None)),
   λ broken. go (message_checks g js (message_at m 0) (λ s d r. None)) refl broken,
 )
   where
-    none_first : (e : MessageFault) (o : Option ℕ) → (message_placed js m None o).0 ≡ Err (message_placing.Offer e) → ⊥
+    none_first : (e : MessageFault) (o : Option ℕ) → (message_placed js m None o).0 ≡ Err (placing.Offer e) → ⊥
     none_first e None is = let z : ◌≡◌ {A = ℕ} 0 1 = cc in omega arith
     none_first e (Some v) is = let z : ◌≡◌ {A = ℕ} 0 1 = cc in omega arith
 
-    refused : (e : MessageFault) (o : Option ℕ) → (message_placed js m (message_checks g js (message_at m 0) (λ s d r. None)) o).0 ≡ Err (message_placing.Offer e)
+    refused : (e : MessageFault) (o : Option ℕ) → (message_placed js m (message_checks g js (message_at m 0) (λ s d r. None)) o).0 ≡ Err (placing.Offer e)
         → message_checks g js (message_at m 0) (λ s d r. None) ≡ None → ⊥
     refused e o is none = none_first e o (ap (λ c. (message_placed js m c o).0) (sym none) ∙ is)
 
     go : (c : Option MessageFault) → message_checks g js (message_at m 0) (λ s d r. None) ≡ c → ((s d : Task) (r : List ℕ) → MessagePassed g js (message_at m 0) s d r → ⊥)
-        → (e : MessageFault) × ((place_message g js m).0 ≡ Err (message_placing.Offer e))
+        → (e : MessageFault) × ((place_message g js m).0 ≡ Err (placing.Offer e))
     go None is broken = let p = message_passes g js (message_at m 0) (λ s d r. None) is in absurd (broken p.source p.destination p.route p.passed)
     go (Some e) is broken = (e, ap (λ c. (message_placed js m c (first_delay g js m)).0) is)

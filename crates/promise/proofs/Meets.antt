@@ -12,7 +12,7 @@ use Rattle.holds.proofs.First.{first_is}
 use Rattle.holds.proofs.Limits.{spanned_proper}
 use Rattle.records.specs.declared.record.Task.{Task}
 use Rattle.records.specs.declared.record.Message.{Message}
-use Rattle.jobs.specs.declared.fault.Meeting.{Meeting}
+use Rattle.refusals.specs.declared.refusal.Meeting.{Meeting}
 use Rattle.jobs.specs.Jobs.{Setting, task_named}
 use Rattle.jobs.specs.Meetings.{HeldJob, at_instant, held_message, held_task, met, shared}
 use Rattle.jobs.specs.declared.place.Place.{Place}

@@ -7,7 +7,7 @@ use Rattle.records.specs.Named.{spot}
 use Rattle.records.proofs.Places.{spot_named}
 use Rattle.records.specs.declared.record.Task.{Task}
 use Rattle.records.specs.declared.record.Message.{Message}
-use Rattle.jobs.specs.declared.fault.Meeting.{Meeting}
+use Rattle.refusals.specs.declared.refusal.Meeting.{Meeting}
 use Rattle.jobs.specs.declared.fault.MessageFault.{MessageFault}
 use Rattle.jobs.specs.declared.fault.MessageFault.TheVariants as message_fault
 use Rattle.jobs.specs.Jobs.{Jobs, Setting, message_name, with_message}

@@ -5,8 +5,7 @@ use Rattle.fabric.specs.Network.{Lawful}
 use Rattle.holds.specs.Search.{first_from}
 use Rattle.holds.proofs.Search.{Found, first_found}
 use Rattle.records.specs.declared.record.Task.{Task}
-use Rattle.jobs.specs.declared.fault.TaskPlacingFault.TheVariants as task_placing
-use Rattle.jobs.specs.declared.fault.MessagePlacingFault.TheVariants as message_placing
+use Rattle.jobs.specs.declared.fault.PlacingFault.TheVariants as placing
 use Rattle.jobs.specs.declared.open.OpenTask.{OpenTask}
 use Rattle.jobs.specs.declared.open.OpenMessage.{OpenMessage}
 use Rattle.jobs.specs.Jobs.{Jobs, Setting, with_message, with_task}
@@ -67,31 +66,31 @@ module _ {E : Type 0} (none : E) (Fits : ℕ → Type 0) (test : ℕ → Bool) (
 
 -- past the checks, the placing of a task answers the smallest phase that fits
 pub task_smallest : (g : Setting) (js : Jobs) (t : OpenTask) → Clean g js → TaskPassed g js (task_at t 0)
-    → Smallest (TaskFits g js t) task_placing.NoFit (place_task g js t).0
+    → Smallest (TaskFits g js t) placing.NoFit (place_task g js t).0
 task_smallest g js t clean p =
     let past = tasks.past g js (task_at t 0) clean p in
-    subst (Smallest (TaskFits g js t) task_placing.NoFit) (sym (ap (λ r. r.0) (task_goes g js t past (first_phase g js t) refl) ∙ shape (first_phase g js t)))
-    (smallest task_placing.NoFit (TaskFits g js t) (λ v. clear (task_refusal g.network.nodes js (task_at t v))) (t.period + 1 - t.width)
+    subst (Smallest (TaskFits g js t) placing.NoFit) (sym (ap (λ r. r.0) (task_goes g js t past (first_phase g js t) refl) ∙ shape (first_phase g js t)))
+    (smallest placing.NoFit (TaskFits g js t) (λ v. clear (task_refusal g.network.nodes js (task_at t v))) (t.period + 1 - t.width)
     (λ v lt e. record { in_range = omega arith; taken = clear_taken (task_refusal g.network.nodes js (task_at t v)) js (with_task js (task_at t v)) e })
     (λ v f. let r = f.in_range in (omega arith, taken_clear (task_refusal g.network.nodes js (task_at t v)) js (with_task js (task_at t v)) f.taken)))
   where
-    shape : (o : Option ℕ) → (task_placed js t None o).0 ≡ by_found task_placing.NoFit o
+    shape : (o : Option ℕ) → (task_placed js t None o).0 ≡ by_found placing.NoFit o
     shape None = refl
     shape (Some v) = refl
 
 -- and that of a message the smallest delay
 pub message_smallest : (g : Setting) (most : ℕ) → most ≤ 64 → Lawful most g.network → (js : Jobs) (m : OpenMessage) (s d : Task) (r : List ℕ) → Clean g js
-    → MessagePassed g js (message_at m 0) s d r → Smallest (MessageFits g js m s) message_placing.NoFit (place_message g js m).0
+    → MessagePassed g js (message_at m 0) s d r → Smallest (MessageFits g js m s) placing.NoFit (place_message g js m).0
 message_smallest g most few laws js m s d r clean p =
     let past = messages.past g most few laws js (message_at m 0) s d r clean p in
     let range : first_from (λ v. clear (message_refusal g js (message_at m v))) s.period 0 ≡ first_delay g js m =
     ap (λ t. first_from (λ v. clear (message_refusal g js (message_at m v))) (delays t) 0) (sym p.ways.from) in
-    subst (Smallest (MessageFits g js m s) message_placing.NoFit)
+    subst (Smallest (MessageFits g js m s) placing.NoFit)
     (sym (ap (λ x. x.0) (message_goes g js m s d past (first_from (λ v. clear (message_refusal g js (message_at m v))) s.period 0) range) ∙ shape (first_from (λ v. clear (message_refusal g js (message_at m v))) s.period 0)))
-    (smallest message_placing.NoFit (MessageFits g js m s) (λ v. clear (message_refusal g js (message_at m v))) s.period
+    (smallest placing.NoFit (MessageFits g js m s) (λ v. clear (message_refusal g js (message_at m v))) s.period
     (λ v lt e. record { in_range = lt; taken = clear_taken (message_refusal g js (message_at m v)) js (with_message js (message_at m v)) e })
     (λ v f. (f.in_range, taken_clear (message_refusal g js (message_at m v)) js (with_message js (message_at m v)) f.taken)))
   where
-    shape : (o : Option ℕ) → (message_placed js m None o).0 ≡ by_found message_placing.NoFit o
+    shape : (o : Option ℕ) → (message_placed js m None o).0 ≡ by_found placing.NoFit o
     shape None = refl
     shape (Some v) = refl

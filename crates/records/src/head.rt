@@ -40,6 +40,7 @@ pub enum HeadFault {
     Limits,
 }
 
+// A method and no `From` for a refusal, since this crate stands on no other and knows of none.
 impl HeadFault {
     pub fn number(self) -> u8
         ensures { result ≡ head_number self }

@@ -1,24 +1,23 @@
 -- The verdict line, byte for byte: `CLEAR tasks messages`, or `REFUSED section record number word` with the refusal's values after it.
 -- Single spaces separate, a newline ends. No line is longer than 64 bytes, and a shorter buffer is refused. Assumes nothing.
-use Rattle.std.specs.Prelude.{ℕ, List, [], ◌++◌, codes, decimal}
+use Rattle.std.specs.Prelude.{ℕ, List, [], ◌++◌, Ok, Err, Result, codes, decimal}
 use Rattle.std.specs.Fmt.{signed_decimal}
 use Rattle.refusals.specs.Words.{word_of}
 use Rattle.refusals.specs.declared.refusal.BufferFault.{BufferFault}
 use Rattle.refusals.specs.declared.refusal.Detail.{Detail}
 use Rattle.refusals.specs.declared.refusal.Detail.TheVariants.{Plain, Slack, Meeting}
-use Rattle.refusals.specs.declared.refusal.Line.{Line}
-use Rattle.refusals.specs.declared.refusal.Line.TheVariants.{Clear, Refused}
+use Rattle.refusals.specs.declared.refusal.Told.{Told}
 
 -- what stands after the word: nothing, the least slack, or the instant of the meeting, the held name and the place
 abbrev pub detail_text : Detail → List ℕ
 detail_text Plain = []
 detail_text (Slack least) = codes " " ++ signed_decimal least
-detail_text (Meeting instant held place) = codes " " ++ decimal instant ++ codes " " ++ decimal held ++ codes " " ++ decimal place
+detail_text (Meeting m) = codes " " ++ decimal m.instant ++ codes " " ++ decimal m.held ++ codes " " ++ decimal m.place
 
--- the bytes of a line
-abbrev pub line_of : Line → List ℕ
-line_of (Clear tasks messages) = codes "CLEAR " ++ decimal tasks ++ codes " " ++ decimal messages ++ codes "\n"
-line_of (Refused told) =
+-- the bytes of the line of a verdict: the counts of tasks and messages, or what is refused
+abbrev pub line_of : Result (ℕ × ℕ) Told → List ℕ
+line_of (Ok counts) = codes "CLEAR " ++ decimal counts.0 ++ codes " " ++ decimal counts.1 ++ codes "\n"
+line_of (Err told) =
     codes "REFUSED " ++ decimal told.section ++ codes " " ++ decimal told.«record» ++ codes " " ++ decimal told.refusal.number ++ codes " " ++ word_of told.refusal.number
     ++ detail_text told.refusal.detail ++ codes "\n"
 

@@ -1,5 +1,5 @@
 -- The word of each refusal number, and its padded form. Assumes nothing.
-use Rattle.std.specs.Prelude.{ℕ, ◌+◌, cond, List, [], ◌∷◌, ◌++◌, take, codes, ◌==◌, slice_index_or}
+use Rattle.std.specs.Prelude.{ℕ, List, [], ◌∷◌, ◌++◌, take, codes, slice_index_or}
 
 -- the words of the refusals 1 to 27, in order
 abbrev pub words : List (List ℕ)
@@ -15,8 +15,3 @@ word_of number = slice_index_or ([] ∷ words) number []
 -- a word with spaces up to eight bytes
 abbrev pub padded_to8 : List ℕ → List ℕ
 padded_to8 w = take 8 (w ++ codes "        ")
-
--- how many bytes stand before the first space
-abbrev pub unpadded_length : List ℕ → ℕ
-unpadded_length [] = 0
-unpadded_length (b ∷ bs) = cond (b == 32) 0 (1 + unpadded_length bs)

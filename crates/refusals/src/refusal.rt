@@ -2,21 +2,33 @@
 ghost use Rattle.refusals.specs.Told.{buffer_told, plain, told};
 ghost use Rattle.std.specs.Prelude.{◌≡◌};
 
+// The first instant at which an offered job and a held one share a place. Meetings are ordered by the instant, then by the name,
+// then by the place.
+#[derive(Clone, Copy, PartialEq, Eq, PartialOrd, Ord, Debug)]
+pub struct Meeting {
+    pub instant: u64,
+    // the name of the held job
+    pub held: u16,
+    // the number of the core or link
+    pub place: u16,
+}
+
 // What stands after the word: nothing, the least slack, or where a meeting is.
 #[derive(Clone, Copy, PartialEq, Eq, Debug)]
 pub enum Detail {
     Plain,
     Slack(i64),
-    Meeting { instant: u64, held: u16, place: u16 },
+    Meeting(Meeting),
 }
 
+// The number is a plain byte: a line can be written, and a word asked for, with any.
 #[derive(Clone, Copy, PartialEq, Eq, Debug)]
 pub struct Refusal {
     pub number: u8,
     pub detail: Detail,
 }
 
-// A refusal with the section and the record of a file that it names.
+// A refusal with the section and the record of a file that it names. The section is a plain byte, so that any may be told.
 #[derive(Clone, Copy, PartialEq, Eq, Debug)]
 pub struct Told {
     pub section: u8,
@@ -49,20 +61,14 @@ impl Told {
     }
 }
 
-#[derive(Clone, Copy, PartialEq, Eq, Debug)]
-pub enum Line {
-    Clear { tasks: usize, messages: usize },
-    Refused(Told),
-}
-
 // The buffer has fewer than 64 bytes: refusal 27.
 #[derive(Clone, Copy, PartialEq, Eq, Debug)]
 pub struct BufferFault;
 
-impl BufferFault {
-    pub fn told(self) -> Refusal
-        ensures { result ≡ buffer_told self }
-    {
+impl From<BufferFault> for Refusal {
+    ghost from_gives = { λ e r. r ≡ buffer_told e };
+
+    fn from(_: BufferFault) -> Refusal {
         Refusal::plain(27)
     }
 }

@@ -12,10 +12,8 @@ use Rattle.jobs.specs.declared.fault.TaskFault.{TaskFault}
 use Rattle.jobs.specs.declared.fault.MessageFault.{MessageFault}
 use Rattle.jobs.specs.declared.fault.DropFault.{DropFault}
 use Rattle.jobs.specs.declared.fault.PlaceFault.{PlaceFault}
-use Rattle.jobs.specs.declared.fault.TaskPlacingFault.{TaskPlacingFault}
-use Rattle.jobs.specs.declared.fault.MessagePlacingFault.{MessagePlacingFault}
-use Rattle.jobs.specs.declared.fault.TaskPlacingFault.TheVariants as task_placing
-use Rattle.jobs.specs.declared.fault.MessagePlacingFault.TheVariants as message_placing
+use Rattle.jobs.specs.declared.fault.PlacingFault.{PlacingFault}
+use Rattle.jobs.specs.declared.fault.PlacingFault.TheVariants as placing
 use Rattle.jobs.specs.declared.open.OpenTask.{OpenTask}
 use Rattle.jobs.specs.declared.open.OpenMessage.{OpenMessage}
 use Rattle.jobs.specs.Jobs.{Jobs, Setting, nothing}
@@ -96,20 +94,20 @@ Holds Is count number (Ok o) = (number < count) × Is o
 Holds Is count number (Err e) = count ≤ number
 
 -- a placing is answered by one of the earlier faults exactly where one of their conditions holds, and past them by the smallest value
-pub record TaskPlacing (g : Setting) (js : Jobs) (t : OpenTask) (r : Result ℕ TaskPlacingFault) : Type 0 where
-  pub early : ((e : TaskFault) × (r ≡ Err (task_placing.Offer e))) ↔ (TaskPassed g js (task_at t 0) → ⊥)
-  pub past : TaskPassed g js (task_at t 0) → Smallest (TaskFits g js t) task_placing.NoFit r
+pub record TaskPlacing (g : Setting) (js : Jobs) (t : OpenTask) (r : Result ℕ (PlacingFault TaskFault)) : Type 0 where
+  pub early : ((e : TaskFault) × (r ≡ Err (placing.Offer e))) ↔ (TaskPassed g js (task_at t 0) → ⊥)
+  pub past : TaskPassed g js (task_at t 0) → Smallest (TaskFits g js t) placing.NoFit r
 
-pub record MessagePlacing (g : Setting) (js : Jobs) (m : OpenMessage) (r : Result ℕ MessagePlacingFault) : Type 0 where
-  pub early : ((e : MessageFault) × (r ≡ Err (message_placing.Offer e))) ↔ ((s d : Task) (route : List ℕ) → MessagePassed g js (message_at m 0) s d route → ⊥)
-  pub past : (s d : Task) (route : List ℕ) → MessagePassed g js (message_at m 0) s d route → Smallest (MessageFits g js m s) message_placing.NoFit r
+pub record MessagePlacing (g : Setting) (js : Jobs) (m : OpenMessage) (r : Result ℕ (PlacingFault MessageFault)) : Type 0 where
+  pub early : ((e : MessageFault) × (r ≡ Err (placing.Offer e))) ↔ ((s d : Task) (route : List ℕ) → MessagePassed g js (message_at m 0) s d route → ⊥)
+  pub past : (s d : Task) (route : List ℕ) → MessagePassed g js (message_at m 0) s d route → Smallest (MessageFits g js m s) placing.NoFit r
 
 -- what is promised of the answer r to a call, with the jobs held before it
 abbrev pub Told : Setting → Jobs → Ask → Answer → Type 0
 Told g js (offering_task t) r = (x : Result (Unit {0}) TaskFault) × (r ≡ answer.TaskOffered x) × Exact g (task_try js t x)
 Told g js (offering_message m) r = (x : Result (Unit {0}) MessageFault) × (r ≡ answer.MessageOffered x) × Exact g (message_try js m x)
-Told g js (placing_task t) r = (x : Result ℕ TaskPlacingFault) × (r ≡ answer.TaskPlaced x) × TaskPlacing g js t x
-Told g js (placing_message m) r = (x : Result ℕ MessagePlacingFault) × (r ≡ answer.MessagePlaced x) × MessagePlacing g js m x
+Told g js (placing_task t) r = (x : Result ℕ (PlacingFault TaskFault)) × (r ≡ answer.TaskPlaced x) × TaskPlacing g js t x
+Told g js (placing_message m) r = (x : Result ℕ (PlacingFault MessageFault)) × (r ≡ answer.MessagePlaced x) × MessagePlacing g js m x
 Told g js (dropping_task n) r = (x : Result (Unit {0}) DropFault) × (r ≡ answer.Dropped x) × TaskDropped js n x
 Told g js (dropping_message n) r = (x : Result (Unit {0}) DropFault) × (r ≡ answer.Dropped x) × MessageDropped js n x
 Told g js (loading part) r = (x : Result (ℕ × ℕ) LoadFault) × (r ≡ answer.Loaded x) × LoadTold g js part x × ((y : Try) → In y (load_tries g js part) → Exact g y)
@@ -132,8 +130,8 @@ Less {X = X} name n before after = (y : X) → In y after ↔ (In y before × (n
 abbrev pub After : Setting → Jobs → Ask → Answer → Jobs → Type 0
 After g js (offering_task t) r after = (r ≡ answer.TaskOffered (Ok tt) → More t js.tasks after.tasks × (after.messages ≡ js.messages)) × ((e : TaskFault) → r ≡ answer.TaskOffered (Err e) → after ≡ js)
 After g js (offering_message m) r after = (r ≡ answer.MessageOffered (Ok tt) → More m js.messages after.messages × (after.tasks ≡ js.tasks)) × ((e : MessageFault) → r ≡ answer.MessageOffered (Err e) → after ≡ js)
-After g js (placing_task t) r after = ((v : ℕ) → r ≡ answer.TaskPlaced (Ok v) → More (task_at t v) js.tasks after.tasks × (after.messages ≡ js.messages)) × ((e : TaskPlacingFault) → r ≡ answer.TaskPlaced (Err e) → after ≡ js)
-After g js (placing_message m) r after = ((v : ℕ) → r ≡ answer.MessagePlaced (Ok v) → More (message_at m v) js.messages after.messages × (after.tasks ≡ js.tasks)) × ((e : MessagePlacingFault) → r ≡ answer.MessagePlaced (Err e) → after ≡ js)
+After g js (placing_task t) r after = ((v : ℕ) → r ≡ answer.TaskPlaced (Ok v) → More (task_at t v) js.tasks after.tasks × (after.messages ≡ js.messages)) × ((e : PlacingFault TaskFault) → r ≡ answer.TaskPlaced (Err e) → after ≡ js)
+After g js (placing_message m) r after = ((v : ℕ) → r ≡ answer.MessagePlaced (Ok v) → More (message_at m v) js.messages after.messages × (after.tasks ≡ js.tasks)) × ((e : PlacingFault MessageFault) → r ≡ answer.MessagePlaced (Err e) → after ≡ js)
 After g js (dropping_task n) r after = (r ≡ answer.Dropped (Ok tt) → Less (λ t. t.name) n js.tasks after.tasks × (after.messages ≡ js.messages)) × ((e : DropFault) → r ≡ answer.Dropped (Err e) → after ≡ js)
 After g js (dropping_message n) r after = (r ≡ answer.Dropped (Ok tt) → Less (λ m. m.name) n js.messages after.messages × (after.tasks ≡ js.tasks)) × ((e : DropFault) → r ≡ answer.Dropped (Err e) → after ≡ js)
 After g js (loading part) r after = after ≡ (load g js part).1

@@ -1,7 +1,5 @@
 // The calls on a plan, by their arguments, and what they answer.
-use jobs::fault::{
-    DropFault, MessageFault, MessagePlacingFault, PlaceFault, TaskFault, TaskPlacingFault,
-};
+use jobs::fault::{DropFault, MessageFault, PlaceFault, PlacingFault, TaskFault};
 use jobs::open::{OpenMessage, OpenTask};
 use plan::fault::LoadFault;
 use records::record::{Message, Task};
@@ -28,9 +26,9 @@ pub enum Answer {
     TaskOffered(Result<(), TaskFault>),
     MessageOffered(Result<(), MessageFault>),
     // the phase
-    TaskPlaced(Result<u32, TaskPlacingFault>),
+    TaskPlaced(Result<u32, PlacingFault<TaskFault>>),
     // the delay
-    MessagePlaced(Result<u32, MessagePlacingFault>),
+    MessagePlaced(Result<u32, PlacingFault<MessageFault>>),
     Dropped(Result<(), DropFault>),
     // how many tasks and messages were taken
     Loaded(Result<(usize, usize), LoadFault>),

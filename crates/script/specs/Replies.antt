@@ -7,10 +7,9 @@ use Rattle.std.specs.Prelude.{◌≡◌, ℕ, List, ◌++◌, Some, None, Ok, Er
 use Rattle.std.specs.Fmt.{signed_decimal}
 use Rattle.refusals.specs.Lines.{detail_text, line_of}
 use Rattle.refusals.specs.Words.{word_of}
-use Rattle.refusals.specs.declared.refusal.Line.TheVariants.{Refused}
 use Rattle.refusals.specs.declared.refusal.Refusal.{Refusal}
 use Rattle.refusals.specs.declared.refusal.Told.{Told}
-use Rattle.jobs.specs.Numbers.{task_told, message_told, task_placing_told, message_placing_told, drop_told, place_told}
+use Rattle.jobs.specs.Numbers.{task_told, message_told, placing_told, drop_told, place_told}
 use Rattle.jobs.specs.declared.fault.PlaceFault.{PlaceFault}
 use Rattle.plan.specs.Told.{load_told}
 use Rattle.replay.specs.declared.calls.Answer.{Answer}
@@ -28,7 +27,7 @@ told_text t =
     ++ detail_text t.refusal.detail
 
 abbrev pub ToldAsVerdicts : Type 0
-ToldAsVerdicts = (t : Told) → line_of (Refused t) ≡ told_text t ++ codes "\n"
+ToldAsVerdicts = (t : Told) → line_of (Err t) ≡ told_text t ++ codes "\n"
 
 -- a word, a number, and another
 abbrev pub two : List ℕ → ℕ → ℕ → List ℕ
@@ -49,8 +48,8 @@ holder_text r = either held_text (λ e. refused_text (place_told e)) r
 abbrev pub answer_text : Answer → List ℕ
 answer_text (answer.TaskOffered r) = either (λ _. codes "TAKEN") (λ e. refused_text (task_told e)) r
 answer_text (answer.MessageOffered r) = either (λ _. codes "TAKEN") (λ e. refused_text (message_told e)) r
-answer_text (answer.TaskPlaced r) = either (λ phase. codes "PLACED " ++ decimal phase) (λ e. refused_text (task_placing_told e)) r
-answer_text (answer.MessagePlaced r) = either (λ delay. codes "PLACED " ++ decimal delay) (λ e. refused_text (message_placing_told e)) r
+answer_text (answer.TaskPlaced r) = either (λ phase. codes "PLACED " ++ decimal phase) (λ e. refused_text (placing_told task_told e)) r
+answer_text (answer.MessagePlaced r) = either (λ delay. codes "PLACED " ++ decimal delay) (λ e. refused_text (placing_told message_told e)) r
 answer_text (answer.Dropped r) = either (λ _. codes "DROPPED") (λ e. refused_text (drop_told e)) r
 answer_text (answer.Loaded r) = either (λ p. two (codes "LOADED ") p.0 p.1) (λ e. told_text (load_told e)) r
 answer_text (answer.Slack r) = either (λ least. codes "SLACK " ++ signed_decimal least) (λ e. refused_text (drop_told e)) r

@@ -35,6 +35,6 @@ pub fn listed_reply(file: &[u8]) -> Reply
     let mut fabric = Listed::new();
     match fabric.set(file) {
         Ok(_) => ready(&fabric),
-        Err(fault) => Reply::Told(fault.told()),
+        Err(fault) => Reply::Told(fault.into()),
     }
 }

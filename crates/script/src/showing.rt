@@ -5,7 +5,7 @@ ghost use Rattle.std.specs.Prelude.{◌≡◌, IfOk, string_bytes};
 
 use crate::reply::Reply;
 use jobs::fault::PlaceFault;
-use refusals::refusal::{Detail, Refusal, Told};
+use refusals::refusal::{Detail, Meeting, Refusal, Told};
 use refusals::words::word;
 use replay::calls::Answer;
 use std::alloc::{AllocError, Global};
@@ -17,11 +17,13 @@ fn show_detail(heap: Global, detail: Detail) -> Result<String, AllocError>
     match detail {
         Detail::Plain => Ok(String::new(heap)),
         Detail::Slack(least) => format!(in heap; " {least}"),
-        Detail::Meeting {
-            instant,
-            held,
-            place,
-        } => format!(in heap; " {instant} {held} {place}"),
+        Detail::Meeting(
+            Meeting {
+                instant,
+                held,
+                place,
+            },
+        ) => format!(in heap; " {instant} {held} {place}"),
     }
 }
 
@@ -57,7 +59,7 @@ fn show_holder(
     match *answer {
         Ok(Some((name, run))) => Ok(format!(in heap; "HELD {name} {run}")?.into_bytes()),
         Ok(None) => Vec::from_slice(heap, b"FREE"),
-        Err(fault) => show_refused(heap, fault.told()),
+        Err(fault) => show_refused(heap, fault.into()),
     }
 }
 
@@ -68,20 +70,20 @@ fn show_answer(heap: Global, answer: &Answer) -> Result<Vec<u8>, AllocError>
         Answer::TaskOffered(Ok(())) | Answer::MessageOffered(Ok(())) => Vec::from_slice(
             heap, b"TAKEN",
         ),
-        Answer::TaskOffered(Err(fault)) => show_refused(heap, fault.told()),
-        Answer::MessageOffered(Err(fault)) => show_refused(heap, fault.told()),
+        Answer::TaskOffered(Err(fault)) => show_refused(heap, Refusal::from(*fault)),
+        Answer::MessageOffered(Err(fault)) => show_refused(heap, Refusal::from(*fault)),
         Answer::TaskPlaced(Ok(phase)) => Ok(format!(in heap; "PLACED {phase}")?.into_bytes()),
-        Answer::TaskPlaced(Err(fault)) => show_refused(heap, fault.told()),
+        Answer::TaskPlaced(Err(fault)) => show_refused(heap, Refusal::from(*fault)),
         Answer::MessagePlaced(Ok(delay)) => Ok(format!(in heap; "PLACED {delay}")?.into_bytes()),
-        Answer::MessagePlaced(Err(fault)) => show_refused(heap, fault.told()),
+        Answer::MessagePlaced(Err(fault)) => show_refused(heap, Refusal::from(*fault)),
         Answer::Dropped(Ok(())) => Vec::from_slice(heap, b"DROPPED"),
-        Answer::Dropped(Err(fault)) => show_refused(heap, fault.told()),
+        Answer::Dropped(Err(fault)) => show_refused(heap, Refusal::from(*fault)),
         Answer::Loaded(Ok((tasks, messages))) => Ok(format!(in heap;
             "LOADED {tasks} {messages}"
         )?.into_bytes()),
-        Answer::Loaded(Err(fault)) => show_told(heap, fault.told()),
+        Answer::Loaded(Err(fault)) => show_told(heap, Told::from(*fault)),
         Answer::Slack(Ok(least)) => Ok(format!(in heap; "SLACK {least}")?.into_bytes()),
-        Answer::Slack(Err(fault)) => show_refused(heap, fault.told()),
+        Answer::Slack(Err(fault)) => show_refused(heap, Refusal::from(*fault)),
         Answer::Holder(held) => show_holder(heap, held),
     }
 }

@@ -1,8 +1,6 @@
 -- Section, record and refusal of each fault of a plan file, and the line of a verdict. Assumes nothing.
 use Rattle.std.specs.Prelude.{ℕ, Ok, Err, Result}
 use Rattle.refusals.specs.Told.{plain, told}
-use Rattle.refusals.specs.declared.refusal.Line.{Line}
-use Rattle.refusals.specs.declared.refusal.Line.TheVariants.{Clear, Refused}
 use Rattle.refusals.specs.declared.refusal.Told.{Told}
 use Rattle.listed.specs.Told.{set_told}
 use Rattle.plan.specs.Told.{load_told}
@@ -14,7 +12,7 @@ file_told Extra = told 5 0 (plain 25)
 file_told (Fabric e) = set_told e
 file_told (Load e) = load_told e
 
--- the counts of what is held, or the refusal
-abbrev pub verdict_line : Result (ℕ × ℕ) FileFault → Line
-verdict_line (Ok p) = Clear p.0 p.1
-verdict_line (Err e) = Refused (file_told e)
+-- what the verdict line tells: the counts of what is held, or the refusal
+abbrev pub verdict_line : Result (ℕ × ℕ) FileFault → Result (ℕ × ℕ) Told
+verdict_line (Ok counts) = Ok counts
+verdict_line (Err e) = Err (file_told e)

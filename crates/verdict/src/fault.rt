@@ -33,14 +33,14 @@ impl From<LoadFault> for FileFault {
     }
 }
 
-impl FileFault {
-    pub(crate) fn told(self) -> Told
-        ensures { result ≡ file_told self }
-    {
-        match self {
+impl From<FileFault> for Told {
+    ghost from_gives = { λ e r. r ≡ file_told e };
+
+    fn from(fault: FileFault) -> Told {
+        match fault {
             FileFault::Extra => Told::new(5, 0, Refusal::plain(25)),
-            FileFault::Fabric(fault) => fault.told(),
-            FileFault::Load(fault) => fault.told(),
+            FileFault::Fabric(fault) => fault.into(),
+            FileFault::Load(fault) => fault.into(),
         }
     }
 }

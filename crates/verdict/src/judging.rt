@@ -14,7 +14,7 @@ use plan::Plan;
 use records::head::{FabricKind, Head, HeadFault, read_head};
 use records::record::{Link, Route};
 use refusals::line::write_line;
-use refusals::refusal::{BufferFault, Line};
+use refusals::refusal::{BufferFault, Told};
 
 // No plan file is longer.
 const LONGEST_FILE: usize = 8192;
@@ -69,15 +69,6 @@ fn judge_file(file: &[u8]) -> Result<(usize, usize), FileFault>
     }
 }
 
-fn line_of(verdict: Result<(usize, usize), FileFault>) -> Line
-    ensures { result ≡ verdict_line verdict }
-{
-    match verdict {
-        Ok((tasks, messages)) => Line::Clear { tasks, messages },
-        Err(fault) => Line::Refused(fault.told()),
-    }
-}
-
 // Writes the verdict line on a plan file to the start of the buffer and answers its length; bytes beyond it stay. A buffer of
 // fewer than 64 bytes is refused and stays.
 pub fn judge(file: &[u8], out: &mut [u8]) -> Result<usize, BufferFault>
@@ -89,5 +80,5 @@ pub fn judge(file: &[u8], out: &mut [u8]) -> Result<usize, BufferFault>
     if out.len() < 64 {
         return Err(BufferFault);
     }
-    write_line(out, line_of(judge_file(file)))
+    write_line(out, judge_file(file).map_err(Told::from))
 }

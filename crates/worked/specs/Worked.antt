@@ -3,7 +3,7 @@ use Rattle.std.specs.Prelude.{◌≡◌, ℕ, List, [], ◌∷◌, ℤ, pos, neg
 use Rattle.fabric.specs.Grid.{grid}
 use Rattle.jobs.specs.declared.fault.TaskFault.TheVariants as task_fault
 use Rattle.jobs.specs.declared.fault.MessageFault.TheVariants as message_fault
-use Rattle.jobs.specs.declared.fault.TaskPlacingFault.TheVariants as task_placing
+use Rattle.jobs.specs.declared.fault.PlacingFault.TheVariants as placing
 use Rattle.jobs.specs.Jobs.{Setting, nothing}
 use Rattle.plan.specs.declared.fault.LoadFault.TheVariants as load_fault
 use Rattle.replay.specs.declared.calls.Answer.{Answer}
@@ -75,7 +75,7 @@ worked =
     ∷ calling (mesh 1 1 0) (task 1 0 4 0 1 ∷ task 2 0 6 2 1 ∷ []) (task_taken ∷ task_meets 8 1 0 ∷ [])
     -- one of period 9 meets it wherever it starts
     ∷ calling (mesh 1 1 0) (task 1 0 4 0 1 ∷ task 2 0 9 1 1 ∷ []) (task_taken ∷ task_meets 28 1 0 ∷ [])
-    ∷ calling (mesh 1 1 0) (task 1 0 4 0 1 ∷ open_task 2 0 9 1 ∷ []) (task_taken ∷ answer.TaskPlaced (Err task_placing.NoFit) ∷ [])
+    ∷ calling (mesh 1 1 0) (task 1 0 4 0 1 ∷ open_task 2 0 9 1 ∷ []) (task_taken ∷ answer.TaskPlaced (Err placing.NoFit) ∷ [])
     ∷ calling (mesh 1 1 0) (task 1 0 4 0 1 ∷ open_task 2 0 6 1 ∷ []) (task_taken ∷ answer.TaskPlaced (Ok 1) ∷ [])
     -- routes go along x first
     ∷ routing (mesh 3 3 0) 0 5 (0 ∷ 4 ∷ 10 ∷ [])

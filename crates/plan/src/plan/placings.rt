@@ -1,5 +1,5 @@
 // Placings: a job is held with the smallest value whose offer would be taken.
-ghost use Rattle.jobs.specs.Numbers.{message_placing_told, task_placing_told};
+ghost use Rattle.jobs.specs.Numbers.{message_told, placing_told, task_told};
 ghost use Rattle.jobs.specs.Placings.{place_message, place_task};
 ghost use Rattle.plan.specs.Held.{jobs, setting};
 ghost use Rattle.refusals.specs.Told.{refusal_of};
@@ -7,23 +7,23 @@ ghost use Rattle.std.specs.Prelude.{◌≡◌, ◌<◌, true, false, is_ok, leng
 
 use super::Plan;
 use fabric::Fabric;
-use jobs::fault::{MessagePlacingFault, TaskPlacingFault};
+use jobs::fault::{MessageFault, PlacingFault, TaskFault};
 use jobs::open::{OpenMessage, OpenTask};
 
 impl<'f, F: Fabric> Plan<'f, F> {
     // The smallest phase that an offer of the task would be taken with.
-    fn phase_for(&self, t: &OpenTask) -> Result<u32, TaskPlacingFault>
+    fn phase_for(&self, t: &OpenTask) -> Result<u32, PlacingFault<TaskFault>>
         ensures answer { result ≡ (place_task (setting F.Fabric.meaning self.now) (jobs self.now) t.now).0 }
         ensures room { is_ok result ≡ true → length (jobs self.now).tasks < 64 }
     {
-        self.task_checks(&t.at(0)).map_err(TaskPlacingFault::Offer)?;
-        self.board().first_phase(t).ok_or(TaskPlacingFault::NoFit)
+        self.task_checks(&t.at(0)).map_err(PlacingFault::Offer)?;
+        self.board().first_phase(t).ok_or(PlacingFault::NoFit)
     }
 
     // Holds the task with the smallest phase that an offer would be taken with, and answers that phase.
-    pub fn place_task(&mut self, t: OpenTask) -> Result<u32, TaskPlacingFault>
+    pub fn place_task(&mut self, t: OpenTask) -> Result<u32, PlacingFault<TaskFault>>
         ensures answer { result ≡ (place_task (setting F.Fabric.meaning self.old) (jobs self.old) t).0 }
-        ensures told { refusal_of task_placing_told result ≡ refusal_of task_placing_told (place_task (setting F.Fabric.meaning self.old) (jobs self.old) t).0 }
+        ensures told { refusal_of (placing_told task_told) result ≡ refusal_of (placing_told task_told) (place_task (setting F.Fabric.meaning self.old) (jobs self.old) t).0 }
         ensures after { jobs self.new ≡ (place_task (setting F.Fabric.meaning self.old) (jobs self.old) t).1 }
         ensures fabric { self.new.fabric ≡ self.old.fabric }
         ensures refused { is_ok result ≡ false → self.new ≡ self.old }
@@ -34,22 +34,22 @@ impl<'f, F: Fabric> Plan<'f, F> {
     }
 
     // The smallest delay that an offer of the message would be taken with.
-    fn delay_for(&self, m: &OpenMessage) -> Result<u32, MessagePlacingFault>
+    fn delay_for(&self, m: &OpenMessage) -> Result<u32, PlacingFault<MessageFault>>
         ensures answer { result ≡ (place_message (setting F.Fabric.meaning self.now) (jobs self.now) m.now).0 }
         ensures room { is_ok result ≡ true → length (jobs self.now).messages < 128 }
     {
         let ends = self
             .message_checks(&m.at(0))
-            .map_err(MessagePlacingFault::Offer)?;
+            .map_err(PlacingFault::Offer)?;
         self.board()
             .first_delay(&ends, m)
-            .ok_or(MessagePlacingFault::NoFit)
+            .ok_or(PlacingFault::NoFit)
     }
 
     // Holds the message with the smallest delay that an offer would be taken with, and answers that delay.
-    pub fn place_message(&mut self, m: OpenMessage) -> Result<u32, MessagePlacingFault>
+    pub fn place_message(&mut self, m: OpenMessage) -> Result<u32, PlacingFault<MessageFault>>
         ensures answer { result ≡ (place_message (setting F.Fabric.meaning self.old) (jobs self.old) m).0 }
-        ensures told { refusal_of message_placing_told result ≡ refusal_of message_placing_told (place_message (setting F.Fabric.meaning self.old) (jobs self.old) m).0 }
+        ensures told { refusal_of (placing_told message_told) result ≡ refusal_of (placing_told message_told) (place_message (setting F.Fabric.meaning self.old) (jobs self.old) m).0 }
         ensures after { jobs self.new ≡ (place_message (setting F.Fabric.meaning self.old) (jobs self.old) m).1 }
         ensures fabric { self.new.fabric ≡ self.old.fabric }
         ensures refused { is_ok result ≡ false → self.new ≡ self.old }

@@ -1,4 +1,4 @@
-use Rattle.std.proofs.Common.{codes, decimal, sym, ap, arith, w64, SFits, to_z, of_z, rules}
+use Rattle.std.proofs.Common.{codes, decimal, sym, ap, arith, w64, rules}
 use Rattle.std.proofs.lemmas.Int.{to_z-of_z}
 use Rattle.std.specs.Fmt.{signed_decimal}
 use Rattle.refusals.specs.Lines.{detail_text}
@@ -15,21 +15,19 @@ returns-in-Plain c =
 pub returns-in-Slack : goal.returns-in-Slack
 returns-in-Slack c =
     let e = ap detail_text c.in-Slack.is in
-    let z = c.in-Slack.z in
-    let f : SFits w64 z = search rules in
-    let same = to_z-of_z w64 z f in
+    let same = to_z-of_z w64 c.in-Slack.z (search rules) in
     let a = starts (codes " ") (omega arith) c.put-at.ensures.end c.put-at.ensures.holds in
-    let a = goes_on (signed_decimal (to_z w64 (of_z w64 z))) a c.put_i64.ensures.end c.put_i64.ensures.holds in
-    record { end = rw e (rw same at a.long); bound = omega arith; holds = rw e (rw same at a.held) }
+    let a = goes_on (signed_decimal c.in-Slack.z) a (rw same at c.put_number.ensures.end) (rw same at c.put_number.ensures.holds) in
+    record { end = rw e a.long; bound = omega arith; holds = rw e a.held }
 
 -- a space before each of the three numbers
 pub returns-in-Meeting : goal.returns-in-Meeting
 returns-in-Meeting c =
     let e = ap detail_text c.in-Meeting.is in
     let a = starts (codes " ") (omega arith) c.put-at-in-Meeting.ensures.end c.put-at-in-Meeting.ensures.holds in
-    let a = goes_on (decimal c.in-Meeting.instant) a c.put_u64-at.ensures.end c.put_u64-at.ensures.holds in
+    let a = goes_on (decimal c.in-Meeting.meeting.instant) a c.put_number-at.ensures.end c.put_number-at.ensures.holds in
     let a = goes_on (codes " ") a c.put-at-in-Meeting-2.ensures.end c.put-at-in-Meeting-2.ensures.holds in
-    let a = goes_on (decimal c.in-Meeting.held) a c.put_u16-at.ensures.end c.put_u16-at.ensures.holds in
+    let a = goes_on (decimal c.in-Meeting.meeting.held) a c.put_number-at-in-Meeting.ensures.end c.put_number-at-in-Meeting.ensures.holds in
     let a = goes_on (codes " ") a c.put-at-in-Meeting-3.ensures.end c.put-at-in-Meeting-3.ensures.holds in
-    let a = goes_on (decimal c.in-Meeting.place) a c.put_u16.ensures.end c.put_u16.ensures.holds in
+    let a = goes_on (decimal c.in-Meeting.meeting.place) a c.put_number-in-Meeting.ensures.end c.put_number-in-Meeting.ensures.holds in
     record { end = rw e a.long; bound = omega arith; holds = rw e a.held }
