@@ -37,35 +37,23 @@ impl Fabric for Shuttle {
 
     // Even links go from node 0 to node 1, odd ones back, and the last on to node 2.
     fn link(&self, l: usize) -> Option<(usize, usize)> {
-        if l < 63 {
-            if l % 2 == 0 {
-                Some((0, 1))
-            } else {
-                Some((1, 0))
-            }
-        } else if l == 63 {
-            Some((1, 2))
-        } else {
-            None
+        match l {
+            63 => Some((1, 2)),
+            _ if l < 63 => Some(if l % 2 == 0 { (0, 1) } else { (1, 0) }),
+            _ => None,
         }
     }
 
     fn route_len(&self, from: usize, to: usize) -> Option<usize> {
-        if from == to && from < 3 {
-            Some(0)
-        } else if from == 0 && to == 1 {
-            Some(1)
-        } else if from == 0 && to == 2 {
-            Some(LINKS)
-        } else {
-            None
+        match (from, to) {
+            (0, 1) => Some(1),
+            (0, 2) => Some(LINKS),
+            _ => (from == to && from < 3).then_some(0),
         }
     }
 
     fn route_link(&self, from: usize, to: usize, place: usize) -> Option<usize> {
-        match self.route_len(from, to) {
-            Some(links) => if place < links { Some(place) } else { None },
-            None => None,
-        }
+        let links = self.route_len(from, to)?;
+        (place < links).then_some(place)
     }
 }
