@@ -9,7 +9,7 @@ use Rattle.fabric.specs.Network.{Network, Lawful, Chain, route_length, route_pla
 
 -- an answered length is that of a route
 pub length_route : (o : Option (List ℕ)) (k : ℕ) → Some k ≡ route_length o → (r : List ℕ) × (o ≡ Some r) × (length r ≡ k)
-length_route None k is = let z : ◌≡◌ {A = ℕ} 0 1 = cc in absurd (omega arith)
+length_route None k is = cc
 length_route (Some r) k is = (r, refl, cc)
 
 -- the link that is answered at a place stands there
@@ -17,19 +17,19 @@ place_at : (r : List ℕ) (i x : ℕ) → Some x ≡ slice_get r i → (i < leng
 place_at r i x is =
     ⊎_elim
     (λ lt. (lt, λ d. let s : Some x ≡ Some (get_or r i d) = is ∙ slice_get-get_or r i d lt in cc))
-    (λ le. let n : Some x ≡ None = is ∙ slice_get_past r i le in let z : ◌≡◌ {A = ℕ} 0 1 = cc in absurd (omega arith))
+    (λ le. let n : Some x ≡ None = is ∙ slice_get_past r i le in cc)
     (cases_lt i (length r))
 
 -- an answered link stands in a route, at that place
 pub place_route : (o : Option (List ℕ)) (i x : ℕ) → Some x ≡ route_place o i → (r : List ℕ) × (o ≡ Some r) × (i < length r) × ((d : ℕ) → get_or r i d ≡ x)
-place_route None i x is = let z : ◌≡◌ {A = ℕ} 0 1 = cc in absurd (omega arith)
+place_route None i x is = cc
 place_route (Some r) i x is = let p = place_at r i x is in (r, refl, p.0, p.1)
 
 -- where no link is answered the route has ended
 pub no_place : (r : List ℕ) (i : ℕ) → None ≡ route_place (Some r) i → length r ≤ i
 no_place r i is =
     ⊎_elim
-    (λ lt. let s : None ≡ Some (get_or r i 0) = is ∙ slice_get-get_or r i 0 lt in let z : ◌≡◌ {A = ℕ} 0 1 = cc in absurd (omega arith))
+    (λ lt. let s : None ≡ Some (get_or r i 0) = is ∙ slice_get-get_or r i 0 lt in cc)
     (λ le. le)
     (cases_lt i (length r))
 
@@ -40,7 +40,7 @@ rest (Some r) i = drop i r
 
 -- a link that is answered is the first of what is left
 pub rest_more : (o : Option (List ℕ)) (i x : ℕ) → Some x ≡ route_place o i → rest o i ≡ x ∷ rest o (i + 1)
-rest_more None i x is = let z : ◌≡◌ {A = ℕ} 0 1 = cc in absurd (omega arith)
+rest_more None i x is = cc
 rest_more (Some r) i x is =
     let p = place_at r i x is in
     drop_more r i 0 p.0 ∙ ap (λ y. y ∷ drop (i + 1) r) (p.1 0)

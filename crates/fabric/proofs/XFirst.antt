@@ -1,6 +1,7 @@
 -- The routes of a mesh go along x first, and are as long as their nodes are apart. Assumes nothing.
-use Rattle.std.proofs.Common.{◌≡◌, ℕ, ◌+◌, ◌-◌, ◌/◌, ◌%◌, ◌<◌, ◌≤◌, true, ◌&&◌, leb, ◌++◌, length, get_or, sym, refl, ap, subst, ⊎_elim, arith, length-append}
-use Rattle.std.proofs.lemmas.Bool.{leb-true, cases_lt, and_parts}
+use Rattle.std.proofs.Common.{◌≡◌, ℕ, ◌+◌, ◌-◌, ◌/◌, ◌%◌, ◌<◌, ◌≤◌, true, ◌++◌, length, get_or, sym, refl, ap, subst, ⊎_elim, arith, length-append}
+use Rattle.std.proofs.lemmas.Bool.{cases_lt}
+use Rattle.std.proofs.lemmas.Bool.Decides.{nat_tests}
 use Rattle.std.proofs.lemmas.List.{get_or_append_left, get_or-append_right}
 use Rattle.std.proofs.lemmas.Nat.{div_below, mod_below}
 use Rattle.fabric.specs.Grid.{across, along, grid_path, sizes_fit}
@@ -12,22 +13,14 @@ use Rattle.fabric.proofs.Places.{route_inside}
 pub record Sizes (w h d : ℕ) : Type 0 where
   pub some_column : 1 ≤ w
   pub few_columns : w ≤ 8
-  pub some_row : 1 ≤ h
   pub few_rows : h ≤ 8
-  pub low_delay : d ≤ 64
 
 pub sizes : (w h d : ℕ) → sizes_fit w h d ≡ true → Sizes w h d
 sizes w h d fit =
-    let all = and_parts (leb 1 w && leb w 8) ((leb 1 h && leb h 8) && leb d 64) fit in
-    let columns = and_parts (leb 1 w) (leb w 8) all.0 in
-    let rest = and_parts (leb 1 h && leb h 8) (leb d 64) all.1 in
-    let rows = and_parts (leb 1 h) (leb h 8) rest.0 in
     record {
-      some_column = leb-true _ _ columns.0;
-      few_columns = leb-true _ _ columns.1;
-      some_row = leb-true _ _ rows.0;
-      few_rows = leb-true _ _ rows.1;
-      low_delay = leb-true _ _ rest.1;
+      some_column = grind (arith, nat_tests);
+      few_columns = grind (arith, nat_tests);
+      few_rows = grind (arith, nat_tests);
     }
 
 -- A link along x stands in the part along the row, so every link before it does too.

@@ -187,7 +187,7 @@ module _ (w : ℕ) where
 -- what a test that came out true says of the answer behind it
 some_parts : {X : Type 0} (t : Bool) (u v : X) → cond t (Some u) None ≡ Some v → (t ≡ true) × (u ≡ v)
 some_parts true u v e = (refl, cc)
-some_parts false u v e = let z : ◌≡◌ {A = ℕ} 0 1 = cc in absurd (omega arith)
+some_parts false u v e = cc
 
 -- two different nodes below n
 abbrev Apart : ℕ → ℕ → ℕ → Type 0
@@ -231,7 +231,7 @@ module _ (w h : ℕ) where
 -- the same where what stands behind the test is itself an answer
 guarded : {X : Type 0} (t : Bool) (o : Option X) (v : X) → cond t o None ≡ Some v → (t ≡ true) × (o ≡ Some v)
 guarded true o v e = (refl, e)
-guarded false o v e = let z : ◌≡◌ {A = ℕ} 0 1 = cc in absurd (omega arith)
+guarded false o v e = cc
 
 module _ (w h d : ℕ) (posw : 1 ≤ w) (few : w ≤ 8) (posh : 1 ≤ h) (low : h ≤ 8) (slow : d ≤ 64) where
   -- a route that is answered is the path between two nodes of the mesh

@@ -1,7 +1,9 @@
 -- Euclid's algorithm gives the greatest common divisor, and Bezout's equation over the naturals.
-use Rattle.std.proofs.Common.{◌≡◌, ℕ, zero, suc, ◌+◌, ◌-◌, ◌*◌, ◌/◌, ◌%◌, ◌<◌, ◌≤◌, ◌⊎◌, sym, refl, ap, ◌∙◌, subst, inl, inr, not-suc-le-zero, mod-lt, zero-lt-suc, mul_assoc, suc-mul, mul_comm, add-mul, eq-zero-or-pos, div-add-mod', zero-mul, mul-add, mul_right_comm, le-mul_of_pos_right, arith}
-use native.Mathlib.Nat.{mul-sub, le_dest}
-use Rattle.holds.specs.Gcd.{Divides, euclid, gcd, IsGcd}
+use Rattle.std.proofs.Common.{◌≡◌, ℕ, zero, suc, ◌+◌, ◌*◌, ◌/◌, ◌%◌, ◌<◌, ◌≤◌, ◌⊎◌, sym, refl, ap, ◌∙◌, subst, inl, inr, not-suc-le-zero, mod-lt, zero-lt-suc, mul_assoc, suc-mul, add-mul, eq-zero-or-pos, div-add-mod', zero-mul, mul-add, mul_right_comm, le-mul_of_pos_right, arith}
+use native.Mathlib.Nat.{le_dest}
+use Rattle.std.specs.Int.{IsGcd}
+use Rattle.std.proofs.lemmas.Nat.Gcd.{IsGcd-from_zero, IsGcd-from_mod}
+use Rattle.holds.specs.Gcd.{euclid, gcd}
 
 -- the remainder is below the fuel that is left
 below : (a b f : ℕ) → suc b ≤ suc f → a % suc b ≤ f
@@ -35,47 +37,16 @@ gcd_step a (suc b) h = enough b (a % suc b) (suc b) (a % suc b) (below a b b (om
 
 -- ---- divisors
 
--- a divisor of b and of the remainder divides a
-divides_whole : (d a b : ℕ) → Divides d b → Divides d (a % b) → Divides d a
-divides_whole d a b (m, e) (n, k) = (
-  (a / b) * m + n,
-  let split : (a / b) * b + a % b ≡ a = div-add-mod' a b in
-      let up : (a / b) * b ≡ (a / b) * m * d = ap (λ (x : ℕ). (a / b) * x) e ∙ sym (mul_assoc (a / b) m d) in
-      omega (arith, add-mul ((a / b) * m) n d),
-)
-
-sub_mul : (m n k : ℕ) → (m - n) * k ≡ m * k - n * k
-sub_mul m n k = rw (mul_comm (m - n) k, mul_comm m k, mul_comm n k) (mul-sub k m n)
-
--- a divisor of a and b divides the remainder
-divides_rest : (d a b : ℕ) → Divides d a → Divides d b → Divides d (a % b)
-divides_rest d a b (n, k) (m, e) = (
-  n - (a / b) * m,
-  let split : (a / b) * b + a % b ≡ a = div-add-mod' a b in
-      let up : (a / b) * b ≡ (a / b) * m * d = ap (λ (x : ℕ). (a / b) * x) e ∙ sym (mul_assoc (a / b) m d) in
-      omega (arith, sub_mul n ((a / b) * m) d),
-)
-
-at_zero : (f a : ℕ) → IsGcd (euclid f a 0) a 0
-at_zero f a =
-    subst (λ (g : ℕ). IsGcd g a 0) (sym (euclid_zero f a))
-    (record { left = (1, omega arith); right = (0, omega arith); greatest = λ d p q. p })
-
 -- each step keeps the common divisors
-euclid_is : (f a b : ℕ) → b ≤ f → IsGcd (euclid f a b) a b
+euclid_is : (f a b : ℕ) → b ≤ f → IsGcd a b (euclid f a b)
 unfolding euclid
-euclid_is zero a zero h = at_zero 0 a
+euclid_is zero a zero h = IsGcd-from_zero a 0 refl
 euclid_is zero a (suc b) h = absurd (not-suc-le-zero h)
-euclid_is (suc f) a zero h = at_zero (suc f) a
+euclid_is (suc f) a zero h = IsGcd-from_zero a 0 refl
 euclid_is (suc f) a (suc b) h =
-    let rest : IsGcd (euclid f (suc b) (a % suc b)) (suc b) (a % suc b) = euclid_is f (suc b) (a % suc b) (below a b f h) in
-    record {
-      left = divides_whole (euclid f (suc b) (a % suc b)) a (suc b) rest.left rest.right;
-      right = rest.left;
-      greatest = λ d p q. rest.greatest d q (divides_rest d a (suc b) p q);
-    }
+    IsGcd-from_mod a (suc b) (euclid f (suc b) (a % suc b)) (euclid_is f (suc b) (a % suc b) (below a b f h))
 
-pub gcd_is_greatest : (a b : ℕ) → IsGcd (gcd a b) a b
+pub gcd_is_greatest : (a b : ℕ) → IsGcd a b (gcd a b)
 unfolding gcd
 gcd_is_greatest a b = euclid_is b a b (omega arith)
 

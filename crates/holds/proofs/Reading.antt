@@ -3,10 +3,11 @@ use Rattle.std.proofs.Common.{◌≡◌, ℕ, suc, ◌+◌, ◌-◌, ◌*◌, �
 use native.Mathlib.Nat.{mod-le, add-mul-mod_self_right, mod-mod}
 use Rattle.std.proofs.lemmas.Int.{ints}
 use Rattle.std.proofs.lemmas.Bool.{cases_lt}
-use Rattle.holds.specs.Gcd.{gcd, Divides}
+use Rattle.std.specs.Int.{◌∣◌}
+use Rattle.holds.specs.Gcd.{gcd}
 use Rattle.holds.specs.Slack.{Flow, ReadAt, LeastRead, SlackIs, LeastSlack, least_slack}
 use Rattle.holds.specs.Span.{Span, gap}
-use Rattle.holds.proofs.Residue.{gap_below, gap_from, gap_only, gcd_positive, meeting_runs, runs_agree, mod_cancel}
+use Rattle.holds.proofs.Residue.{gap_below, gap_from, gap_only, gcd_positive, meeting_runs, runs_agree, mod_cancel, whole}
 
 -- the reader's run is the time from its first start to the due instant, in periods, rounded up
 pub always_read : (f : Flow) (r : Span) (k : ℕ) → 0 < r.period → (t : ℕ) × ReadAt f r k t
@@ -92,9 +93,15 @@ module _ (f : Flow) (r : Span) (hf : 0 < f.period) (hr : 0 < r.period) where
           below k w t e l = omega (arith, ints)
 
   -- a due instant that the divisor divides does not change the residue
-  pub least_whole : Divides shared f.due → least_slack f r ≡ pos (f.due + r.start % shared) -ℤ pos f.arrival
-  least_whole (m, e) = ap (λ (v : ℕ). pos (f.due + v) -ℤ pos f.arrival) (sym same)
+  pub least_whole : shared ∣ f.due → least_slack f r ≡ pos (f.due + r.start % shared) -ℤ pos f.arrival
+  least_whole d = ap (λ (v : ℕ). pos (f.due + v) -ℤ pos f.arrival) (sym same)
     where
+      m : ℕ
+      m = f.due / shared
+
+      e : m * shared ≡ f.due
+      e = whole shared f.due d
+
       same : r.start % shared ≡ wait
       same =
           gap_only f.due r.start shared (r.start % shared) positive (mod-lt r.start positive)

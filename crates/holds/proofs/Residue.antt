@@ -1,8 +1,8 @@
 -- Residues, and where two arithmetic progressions meet.
-use Rattle.std.proofs.Common.{◌≡◌, ℕ, ◌+◌, ◌-◌, ◌*◌, ◌/◌, ◌%◌, ◌<◌, ◌⊎◌, pos, ◌-ℤ◌, sym, refl, ap, ◌∙◌, inl, inr, mod-lt, mod-eq_of_lt, mul_assoc, add-mul, eq-zero-or-pos, mul-zero, div-add-mod', mul-add, arith}
-use native.Mathlib.Nat.{add-mod-mod, add-mul-mod_self_right}
-use Rattle.holds.specs.Gcd.{Divides, gcd}
-use Rattle.std.specs.Int.{int_rem_euclid}
+use Rattle.std.proofs.Common.{◌≡◌, ℕ, ◌+◌, ◌-◌, ◌*◌, ◌/◌, ◌%◌, ◌<◌, pos, ◌-ℤ◌, sym, refl, ap, ◌∙◌, mod-lt, mod-eq_of_lt, mul_assoc, add-mul, div-add-mod', mul-add, arith}
+use native.Mathlib.Nat.{add-mod-mod, add-mul-mod_self_right, mod-eq-zero_of_dvd, pos_of_dvd_of_pos}
+use Rattle.holds.specs.Gcd.{gcd}
+use Rattle.std.specs.Int.{◌∣◌, int_rem_euclid}
 use Rattle.std.proofs.lemmas.Int.{ints, int_rem_euclid_is}
 use Rattle.holds.specs.Span.{gap}
 use Rattle.holds.proofs.Euclid.{Bezout, gcd_is_greatest, gcd_bezout, bezout_swap}
@@ -49,12 +49,12 @@ gap_is_difference a b g h =
 
 -- ---- progressions
 
+-- a number as often as its divisor goes into it
+pub whole : (d n : ℕ) → d ∣ n → n / d * d ≡ n
+whole d n h = omega (arith, div-add-mod' n d, mod-eq-zero_of_dvd _ h)
+
 pub gcd_positive : (p q : ℕ) → 0 < p → 0 < gcd p q
-gcd_positive p q h = go (eq-zero-or-pos (gcd p q)) (gcd_is_greatest p q).left
-  where
-    go : (gcd p q ≡ 0) ⊎ (0 < gcd p q) → Divides (gcd p q) p → 0 < gcd p q
-    go (inl e) (m, k) = absurd (omega (arith, k ∙ ap (λ (g : ℕ). m * g) e ∙ mul-zero m))
-    go (inr l) d = l
+gcd_positive p q h = pos_of_dvd_of_pos (gcd_is_greatest p q).0 h
 
 -- Bezout's equations, as often as g goes into x and y
 join : (p q g x y : ℕ) → Bezout g p q → Bezout g q p → x % g ≡ y % g → (k : ℕ) × (j : ℕ) × (x + k * p ≡ y + j * q)
@@ -90,12 +90,12 @@ meeting_runs p q x y hp hq same =
 
 -- and only there
 pub runs_agree : (p q x y k j : ℕ) → x + k * p ≡ y + j * q → x % gcd p q ≡ y % gcd p q
-runs_agree p q x y k j e = go (gcd_is_greatest p q).left (gcd_is_greatest p q).right
-  where
-    go : Divides (gcd p q) p → Divides (gcd p q) q → x % gcd p q ≡ y % gcd p q
-    go (m, a) (n, b) =
-        mod_shift x y (k * m) (j * n) (gcd p q)
-        (omega (arith, e, ap (λ (z : ℕ). k * z) a, ap (λ (z : ℕ). j * z) b, mul_assoc k m (gcd p q), mul_assoc j n (gcd p q)))
+runs_agree p q x y k j e =
+    let g = gcd p q in
+    let a = whole g p (gcd_is_greatest p q).0 in
+    let b = whole g q (gcd_is_greatest p q).1 in
+    mod_shift x y (k * (p / g)) (j * (q / g)) g
+    (omega (arith, e, ap (λ (z : ℕ). k * z) a, ap (λ (z : ℕ). j * z) b, mul_assoc k (p / g) g, mul_assoc j (q / g) g))
 
 -- a gap modulo the divisor of two periods is below it, and it is not 0
 pub ruleset gap_in_gcd = (gap_below, gcd_positive)

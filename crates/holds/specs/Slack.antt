@@ -1,7 +1,8 @@
 -- Which run of a reader reads a packet, and the least time that is left for it.
 -- The runs of the reader start at start + j * period, j from 0; its width does not matter here.
 use Rattle.std.specs.Prelude.{◌≡◌, ℕ, ◌+◌, ◌*◌, ◌%◌, ◌<◌, ◌≤◌, ℤ, pos, ◌-ℤ◌, ◌≤ℤ◌}
-use Rattle.holds.specs.Gcd.{gcd, Divides}
+use Rattle.std.specs.Int.{◌∣◌}
+use Rattle.holds.specs.Gcd.{gcd}
 use Rattle.holds.specs.Span.{Span, gap}
 
 -- packet k, from 0, arrives at arrival + k * period and is read at due + k * period at the earliest
@@ -45,5 +46,5 @@ SlackIsLeast = (f : Flow) (r : Span) → 0 < f.period → 0 < r.period → Least
 -- where the greatest common divisor divides the due instant, as it does 0 and the period of the packets
 abbrev pub LeastWhole : Type 0
 LeastWhole =
-    (f : Flow) (r : Span) → 0 < f.period → 0 < r.period → Divides (gcd f.period r.period) f.due
+    (f : Flow) (r : Span) → 0 < f.period → 0 < r.period → gcd f.period r.period ∣ f.due
     → least_slack f r ≡ pos (f.due + r.start % gcd f.period r.period) -ℤ pos f.arrival

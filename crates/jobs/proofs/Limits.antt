@@ -5,7 +5,9 @@ use Rattle.std.proofs.lemmas.Bool.Decides.{nat_tests}
 use Rattle.std.proofs.lemmas.Bool.{cond_both, cases_lt}
 use Rattle.std.proofs.lemmas.Option.{slice_get_past}
 use Rattle.fabric.specs.Network.{Lawful}
-use Rattle.holds.specs.Gcd.{Divides, gcd}
+use Rattle.std.specs.Int.{◌∣◌}
+use Rattle.std.proofs.lemmas.Nat.Gcd.{dvd-zero}
+use Rattle.holds.specs.Gcd.{gcd}
 use Rattle.holds.specs.Held.{spanned}
 use Rattle.holds.specs.Slack.{Flow}
 use Rattle.holds.proofs.Euclid.{gcd_is_greatest}
@@ -72,8 +74,8 @@ packet_holds g most few laws s d m ts tm r e i l at =
     (omega (arith, near, h.short, h.ends, k.soon)) (record { some = k.some; fits = k.fits }) (omega (arith, h.short)))
 
 -- the divisor of both periods divides the due instant, 0 or a period of the source
-due_whole : (k p q : ℕ) → Divides (gcd p q) (due k p)
-due_whole k p q = cond_both (eqb k 0) 0 p (λ n. Divides (gcd p q) n) (λ _. (0, omega arith)) (λ _. (gcd_is_greatest p q).left)
+due_whole : (k p q : ℕ) → gcd p q ∣ due k p
+due_whole k p q = cond_both (eqb k 0) 0 p (λ n. gcd p q ∣ n) (λ _. dvd-zero (gcd p q)) (λ _. (gcd_is_greatest p q).0)
 
 due_near : (k p : ℕ) → due k p ≤ p
 due_near k p = cond_both (eqb k 0) 0 p (λ n. n ≤ p) (λ _. omega arith) (λ _. omega arith)
