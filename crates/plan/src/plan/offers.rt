@@ -62,10 +62,7 @@ impl<'f, F: Fabric> Plan<'f, F> {
         if let Err(fault) = self.task_checks(t) {
             return Some(fault);
         }
-        match first_task_meeting(self.tasks.held(), t) {
-            Some(meeting) => Some(TaskFault::Meets(meeting)),
-            None => None,
-        }
+        first_task_meeting(self.tasks.held(), t).map(TaskFault::Meets)
     }
 
     // One task more: there is room, so the insertion is not refused.
@@ -100,12 +97,8 @@ impl<'f, F: Fabric> Plan<'f, F> {
             return Err(MessageFault::Name);
         }
         let tasks = self.tasks.held();
-        let Some(source) = pick(tasks, m.source) else {
-            return Err(MessageFault::Ends);
-        };
-        let Some(destination) = pick(tasks, m.destination) else {
-            return Err(MessageFault::Ends);
-        };
+        let source = pick(tasks, m.source).ok_or(MessageFault::Ends)?;
+        let destination = pick(tasks, m.destination).ok_or(MessageFault::Ends)?;
         if !message::timely(&source, m) {
             return Err(MessageFault::Times);
         }
@@ -150,10 +143,7 @@ impl<'f, F: Fabric> Plan<'f, F> {
         if let Some(slack) = late_by(&way, destination, m) {
             return Some(MessageFault::Late(slack));
         }
-        match first_packet_meeting(self.fabric, tasks, held, &way) {
-            Some(meeting) => Some(MessageFault::Meets(meeting)),
-            None => None,
-        }
+        first_packet_meeting(self.fabric, tasks, held, &way).map(MessageFault::Meets)
     }
 
     // The first check past the limits that refuses a message between two held tasks.
