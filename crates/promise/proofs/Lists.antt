@@ -72,10 +72,6 @@ module _ {X : Type 0} (name : X → ℕ) where
   distinct_cons x xs apart d (suc i) zero a b ea eb same = absurd (apart a (i, ea) (let s : x ≡ b = cc in cc))
   distinct_cons x xs apart d (suc i) (suc j) a b ea eb same = ap suc (d i j a b ea eb same)
 
-  -- members of one name are one member
-  pub same_index : (xs : List X) → Distinct name xs → (x y : X) → In x xs → In y xs → name x ≡ name y → x ≡ y
-  same_index xs d x y (i, a) (j, b) same = let at : i ≡ j = d i j x y a b same in cc
-
   -- ---- the first record of a name
 
   -- what a name finds is a member that has it
@@ -150,9 +146,6 @@ module _ {X : Type 0} (name : X → ℕ) where
       (distinct_add_apart x zs (distinct_tail z zs d) (λ y k. apart y (in_there z y zs k))))
       (λ _. distinct_cons x (z ∷ zs) apart d)
 
-  pub distinct_add : (x : X) (xs : List X) → Distinct name xs → is_some (spot name (name x) xs) ≡ false → Distinct name (add name x xs)
-  distinct_add x xs d fresh = distinct_add_apart x xs d (fresh_apart (name x) xs fresh)
-
   -- other names find what they found
   pub named_add_other : (n : ℕ) (x : X) (xs : List X) → (name x ≡ n → ⊥) → named name n (add name x xs) ≡ named name n xs
   named_add_other n x [] ne = cond-false (eqb (name x) n) (Some x) None (ne_eqb (name x) n ne)
@@ -216,7 +209,3 @@ module _ {X : Type 0} (name : X → ℕ) where
       cond_both (eqb (name x) m) xs (x ∷ without name m xs) (λ l. named name n l ≡ named name n (x ∷ xs))
       (λ t. sym (cond-false (eqb (name x) n) (Some x) (named name n xs) (ne_eqb (name x) n (λ e. ne (sym (eqb-true (name x) m t) ∙ e)))))
       (λ _. ap (λ o. cond (eqb (name x) n) (Some x) o) (named_without_other m n xs ne))
-
-  -- the name that went out finds nothing
-  pub named_without_same : (n : ℕ) (xs : List X) → Distinct name xs → named name n (without name n xs) ≡ None
-  named_without_same n xs d = apart_none n (without name n xs) (λ y k. without_apart n y xs d k)

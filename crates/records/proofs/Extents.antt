@@ -1,5 +1,5 @@
 -- Where the records of a section lie in its bytes. Assumes nothing.
-use Rattle.std.proofs.Common.{◌≡◌, ℕ, ◌+◌, ◌-◌, ◌*◌, ◌/◌, ◌<◌, ◌≤◌, le_refl, add-mul, one-mul, arith}
+use Rattle.std.proofs.Common.{◌≡◌, ℕ, ◌+◌, ◌*◌, ◌/◌, ◌<◌, ◌≤◌, le_refl, add-mul, one-mul, arith}
 use Rattle.std.proofs.lemmas.Nat.{div-add-mod', mul-le}
 
 -- n records of s bytes lie within len bytes
@@ -13,7 +13,3 @@ place_within i s len h = omega (arith, count_within (i + 1) s len (omega arith),
 -- the same from what the calls of the code ensure
 pub record_within : {i s n each : ℕ} (len : ℕ) → n ≡ len / s → each ≡ s → i < n → i * each + each ≤ len
 record_within {i} {s} {n} {each} len counted sized h = rw sized (place_within i s len (omega arith))
-
--- a section of n records after a count of two bytes
-pub section_within : (n s len : ℕ) → 2 ≤ len → n ≤ (len - 2) / s → 2 + n * s ≤ len
-section_within n s len two h = omega (arith, count_within n s (len - 2) h)

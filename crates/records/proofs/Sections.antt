@@ -1,5 +1,6 @@
 -- The records of a section as a list. Assumes nothing.
-use Rattle.std.proofs.Common.{◌≡◌, ℕ, zero, suc, ◌+◌, ◌-◌, ◌/◌, ◌<◌, true, false, ◌⊎◌, List, [], ◌∷◌, length, get_or, is_some, Some, None, Ok, Err, Option, Result, sym, refl, ap, ◌∙◌, subst, inl, inr, add-zero, zero-add, arith}
+use Rattle.std.proofs.Common.{◌≡◌, ℕ, zero, suc, ◌+◌, ◌/◌, ◌<◌, not, cond, List, [], ◌∷◌, length, get_or, is_some, Some, None, Ok, Err, Option, Result, sym, refl, ap, ◌∙◌, subst, add-zero, zero-add, arith}
+use Rattle.std.specs.List.{find, range_with_len}
 use Rattle.records.specs.Sections.{record_at, in_front, read_from, section_records, unread_place}
 
 module _ {R : Type 0} where
@@ -14,28 +15,15 @@ module _ {R : Type 0} where
   front_parts k (Some x) (Ok ys) xs e = (x, ys, refl, refl, cc)
   front_parts k (Some x) (Err j) xs e = let z : ◌≡◌ {A = ℕ} 0 1 = cc in absurd (omega arith)
 
-  -- a fault is here, or further on
-  front_fault : (k : ℕ) (o : Option R) (r : Result (List R) ℕ) (j : ℕ) → in_front k o r ≡ Err j → ((j ≡ k) × (o ≡ None)) ⊎ (r ≡ Err j)
-  front_fault k None r j e = inl (cc, refl)
-  front_fault k (Some x) (Ok ys) j e = let z : ◌≡◌ {A = ℕ} 0 1 = cc in absurd (omega arith)
-  front_fault k (Some x) (Err i) j e = inr e
-
 module _ {R : Type 0} (at : ℕ → Option R) where
-  -- one turn of a walk over n places
-  read_more : (i n : ℕ) → i < n → read_from at i (n - i) ≡ in_front i (at i) (read_from at (i + 1) (n - (i + 1)))
-  read_more i n h = let e : n - i ≡ suc (n - (i + 1)) = omega arith in rw e
-
-  -- a place without a record ends the walk
-  pub unread_here : (i n : ℕ) (o : Option R) → i < n → o ≡ at i → is_some o ≡ false → unread_place (read_from at i (n - i)) ≡ Some i
-  unread_here i n None h e none = ap unread_place (read_more i n h ∙ ap (λ p. in_front i p (read_from at (i + 1) (n - (i + 1)))) (sym e))
-  unread_here i n (Some x) h e none = let y : ◌≡◌ {A = ℕ} 0 1 = cc in absurd (omega arith)
-
-  -- a record is passed
-  pub unread_more : (i n : ℕ) (o : Option R) → i < n → o ≡ at i → is_some o ≡ true → unread_place (read_from at i (n - i)) ≡ unread_place (read_from at (i + 1) (n - (i + 1)))
-  unread_more i n None h e some = let y : ◌≡◌ {A = ℕ} 0 1 = cc in absurd (omega arith)
-  unread_more i n (Some x) h e some =
-      let rest = read_from at (i + 1) (n - (i + 1)) in
-      ap unread_place (read_more i n h ∙ ap (λ o. in_front i o rest) (sym e)) ∙ front_unread i x rest
+  -- the first fault is the first place without a record
+  pub unread_is : (k m : ℕ) → unread_place (read_from at k m) ≡ find (λ i. not (is_some (at i))) (range_with_len k m)
+  unread_is k zero = refl
+  unread_is k (suc m) = go (at k) (unread_is (k + 1) m)
+    where
+      go : (o : Option R) → unread_place (read_from at (k + 1) m) ≡ find (λ i. not (is_some (at i))) (range_with_len (k + 1) m) → unread_place (in_front k o (read_from at (k + 1) m)) ≡ cond (not (is_some o)) (Some k) (find (λ i. not (is_some (at i))) (range_with_len (k + 1) m))
+      go None rest = refl
+      go (Some x) rest = front_unread k x (read_from at (k + 1) m) ∙ rest
 
   -- a list that was read has a record for each place
   pub read_each : (k m : ℕ) (xs : List R) → read_from at k m ≡ Ok xs → (length xs ≡ m) × ((i : ℕ) (d : R) → i < m → at (k + i) ≡ Some (get_or xs i d))
@@ -50,15 +38,6 @@ module _ {R : Type 0} (at : ℕ → Option R) where
       placed : (x : R) (ys : List R) → at k ≡ Some x → ((i : ℕ) (d : R) → i < m → at (k + 1 + i) ≡ Some (get_or ys i d)) → (i : ℕ) (d : R) → i < suc m → at (k + i) ≡ Some (get_or (x ∷ ys) i d)
       placed x ys here each zero d h = ap at (add-zero k) ∙ here
       placed x ys here each (suc i) d h = let e : k + suc i ≡ k + 1 + i = omega arith in ap at e ∙ each i d (omega arith)
-
-  -- a fault is a place without a record
-  pub read_fault : (k m j : ℕ) → read_from at k m ≡ Err j → (j < k + m) × (at j ≡ None)
-  read_fault k zero j e = let z : ◌≡◌ {A = ℕ} 0 1 = cc in absurd (omega arith)
-  read_fault k (suc m) j e =
-      elim (front_fault k (at k) (read_from at (k + 1) m) j e) [
-        | inl p ↦ (omega arith, ap at p.0 ∙ p.1)
-        | inr r ↦ let (low, none) = read_fault (k + 1) m j r in (omega arith, none)
-      ]
 
   -- a list with a record for each place is what is read
   pub read_whole : (k : ℕ) (xs : List R) → ((i : ℕ) (d : R) → i < length xs → at (k + i) ≡ Some (get_or xs i d)) → read_from at k (length xs) ≡ Ok xs
@@ -78,12 +57,6 @@ module _ {R : Type 0} (parsed : List ℕ → Option R) (size : ℕ) (bs : List �
   pub section_each : (xs : List R) → section_records parsed size bs ≡ Ok xs → (i : ℕ) (d : R) → i < length xs → record_at parsed size bs i ≡ Some (get_or xs i d)
   section_each xs e i d h =
       ap (record_at parsed size bs) (sym (zero-add i)) ∙ (read_each (record_at parsed size bs) 0 (length bs / size) xs e).1 i d (omega (arith, section_length xs e))
-
-  -- where the records of a section are none, the place has no record
-  pub section_fault : (k : ℕ) → section_records parsed size bs ≡ Err k → (k < length bs / size) × (record_at parsed size bs k ≡ None)
-  section_fault k e =
-      let (low, none) = read_fault (record_at parsed size bs) 0 (length bs / size) k e in
-      (omega arith, none)
 
   -- a list with a record for each place of a section is its records
   pub section_whole : (xs : List R) → length bs / size ≡ length xs → ((i : ℕ) (d : R) → i < length xs → record_at parsed size bs i ≡ Some (get_or xs i d)) → section_records parsed size bs ≡ Ok xs

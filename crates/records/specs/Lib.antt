@@ -1,5 +1,6 @@
 pub mod Bytes
 pub mod Forms
+pub mod Kind
 pub mod Sections
 pub mod Named
 pub mod Head

@@ -6,7 +6,7 @@ ghost use Rattle.records.specs.Unique.{list_is, chosen, same_bytes};
 ghost use Rattle.std.proofs.lemmas.Bool.Decides.{nat_tests};
 ghost use Rattle.records.specs.Bytes.{be, bytes_of};
 
-use crate::bytes::{read16, read32};
+use crate::kind::Kind;
 use crate::record::{Canonical, Link, Message, Record, Route, Task};
 
 impl Record for Link {
@@ -60,39 +60,21 @@ impl Record for Route {
     ghost back = { λ x sound. ap (λ l. Some (record { from = x.from; to = x.to; length = x.length; links = l })) (sym (list_is 12 x.links sound)) };
 
     fn read(bytes: &[u8]) -> Option<Route> {
-        if bytes[3] != 0 {
+        let [from, to, length, 0, links @ ..] = bytes else {
             return None;
-        }
-        let mut links = [0; 12];
-        links.copy_from_slice(&bytes[4..16]);
+        };
         Some(Route {
-            from: bytes[0],
-            to: bytes[1],
-            length: bytes[2],
-            links,
+            from: *from,
+            to: *to,
+            length: *length,
+            links: links.try_into().ok()?,
         })
     }
 
     fn write(&self, out: &mut [u8]) {
-        let k = self.links;
-        out.copy_from_slice(&[
-            self.from,
-            self.to,
-            self.length,
-            0,
-            k[0],
-            k[1],
-            k[2],
-            k[3],
-            k[4],
-            k[5],
-            k[6],
-            k[7],
-            k[8],
-            k[9],
-            k[10],
-            k[11],
-        ]);
+        let (ends, links) = out.split_at_mut(4);
+        ends.copy_from_slice(&[self.from, self.to, self.length, 0]);
+        links.copy_from_slice(&self.links);
     }
 }
 
@@ -121,15 +103,33 @@ impl Record for Task {
     ghost back = { Prim.search rules };
 
     fn read(bytes: &[u8]) -> Option<Task> {
-        if bytes[3] != 0 {
+        let [
+            n0,
+            n1,
+            core,
+            0,
+            p0,
+            p1,
+            p2,
+            p3,
+            f0,
+            f1,
+            f2,
+            f3,
+            w0,
+            w1,
+            w2,
+            w3,
+        ] = bytes
+        else {
             return None;
-        }
+        };
         Some(Task {
-            name: read16(bytes, 0),
-            core: bytes[2],
-            period: read32(bytes, 4),
-            phase: read32(bytes, 8),
-            width: read32(bytes, 12),
+            name: u16::from_be_bytes([*n0, *n1]),
+            core: *core,
+            period: u32::from_be_bytes([*p0, *p1, *p2, *p3]),
+            phase: u32::from_be_bytes([*f0, *f1, *f2, *f3]),
+            width: u32::from_be_bytes([*w0, *w1, *w2, *w3]),
         })
     }
 
@@ -174,17 +174,35 @@ impl Record for Message {
     ghost back = { Prim.search rules };
 
     fn read(bytes: &[u8]) -> Option<Message> {
-        let kind = bytes[6];
-        if kind > 1 || bytes[7] != 0 {
-            return None;
-        }
-        Some(Message {
-            name: read16(bytes, 0),
-            source: read16(bytes, 2),
-            destination: read16(bytes, 4),
+        let [
+            n0,
+            n1,
+            s0,
+            s1,
+            t0,
+            t1,
             kind,
-            delay: read32(bytes, 8),
-            width: read32(bytes, 12),
+            0,
+            d0,
+            d1,
+            d2,
+            d3,
+            w0,
+            w1,
+            w2,
+            w3,
+        ] = bytes
+        else {
+            return None;
+        };
+        Kind::try_from(*kind).ok()?;
+        Some(Message {
+            name: u16::from_be_bytes([*n0, *n1]),
+            source: u16::from_be_bytes([*s0, *s1]),
+            destination: u16::from_be_bytes([*t0, *t1]),
+            kind: *kind,
+            delay: u32::from_be_bytes([*d0, *d1, *d2, *d3]),
+            width: u32::from_be_bytes([*w0, *w1, *w2, *w3]),
         })
     }
 

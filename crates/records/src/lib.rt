@@ -1,9 +1,9 @@
 // The bytes of plan files: records of fixed size, sections of them, names, and the head.
 #![tactic(auto)]
 
-mod bytes;
 pub mod forms;
 pub mod head;
+pub mod kind;
 pub mod named;
 pub mod record;
 pub mod section;

@@ -79,6 +79,7 @@ pub struct Message {
     pub name: u16,
     pub source: u16,
     pub destination: u16,
+    // a number and not a `Kind`: an offer takes any, and refuses what names no kind
     pub kind: u8,
     pub delay: u32,
     pub width: u32,

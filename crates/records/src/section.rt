@@ -2,7 +2,6 @@
 ghost use Rattle.std.specs.Prelude.{◌≡◌, ◌/◌, length, Ok, Err, MatchResult};
 ghost use Rattle.records.specs.Sections.{count_of, cut_of, record_at, section_records, unread_place};
 
-use crate::bytes::read16;
 use crate::record::Record;
 use std::marker::PhantomData;
 
@@ -48,12 +47,7 @@ impl<'a, R: Record + Drop> Section<'a, R> {
     pub fn unread(&self) -> Option<usize>
         ensures { result ≡ unread_place (section_records R.Record.parsed R.Record.SIZE self.now.bytes.now) }
     {
-        for i in 0..self.count() {
-            if self.get(i).is_none() {
-                return Some(i);
-            }
-        }
-        None
+        (0..self.count()).find(|i| self.get(*i).is_none())
     }
 }
 
@@ -67,25 +61,25 @@ pub struct CutOff {
 pub fn counted(file: &[u8]) -> Option<u16>
     ensures { result ≡ count_of file.now }
 {
-    if file.len() < 2 {
+    let [high, low, ..] = file else {
         return None;
-    }
-    Some(read16(file, 0))
+    };
+    Some(u16::from_be_bytes([*high, *low]))
 }
 
 // The section at the front of a file, and the rest.
 pub fn cut<'a, R: Record>(file: &'a [u8]) -> Result<(Section<'a, R>, &'a [u8]), CutOff>
     ensures { MatchResult result (λ p. cut_of R.Record.SIZE file.now ≡ Ok (p.0.bytes.now, p.1.now)) (λ e. cut_of R.Record.SIZE file.now ≡ Err e.whole) }
 {
-    if file.len() < 2 {
+    let [high, low, body @ ..] = file else {
         return Err(CutOff { whole: 0 });
-    }
-    let n = read16(file, 0) as usize;
+    };
+    let n = u16::from_be_bytes([*high, *low]) as usize;
     let each = R::SIZE;
-    let fit = (file.len() - 2) / each;
+    let fit = body.len() / each;
     if fit < n {
         return Err(CutOff { whole: fit });
     }
-    let end = 2 + n * each;
-    Ok((Section::over(&file[2..end]), &file[end..]))
+    let (records, rest) = body.split_at(n * each);
+    Ok((Section::over(records), rest))
 }

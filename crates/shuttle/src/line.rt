@@ -41,26 +41,21 @@ impl Fabric for Shuttle {
     fn link(&self, l: usize) -> Option<(usize, usize)> {
         match l {
             63 => Some((1, 2)),
-            0..63 if l % 2 == 0 => Some((0, 1)),
-            0..63 => Some((1, 0)),
+            _ if l < 63 => Some(if l % 2 == 0 { (0, 1) } else { (1, 0) }),
             _ => None,
         }
     }
 
     fn route_len(&self, from: usize, to: usize) -> Option<usize> {
         match (from, to) {
-            (0, 0) | (1, 1) | (2, 2) => Some(0),
             (0, 1) => Some(1),
             (0, 2) => Some(LINKS),
-            _ => None,
+            _ => (from == to && from < 3).then_some(0),
         }
     }
 
     fn route_link(&self, from: usize, to: usize, place: usize) -> Option<usize> {
         let links = self.route_len(from, to)?;
-        if place >= links {
-            return None;
-        }
-        Some(place)
+        (place < links).then_some(place)
     }
 }

@@ -63,6 +63,7 @@ impl<'f, F: Fabric> Plan<'f, F> {
         ensures after { (xs : List R) → section_records R.Record.parsed R.Record.SIZE section.now.bytes.now ≡ Ok xs → jobs self.new ≡ (in_turn (R.Job.refusal (setting F.Fabric.meaning self.old)) R.Job.joined (jobs self.old) 0 xs).1 }
         ensures fabric { self.new.fabric ≡ self.old.fabric }
     {
+        // by places, since a refused offer names its place
         for i in 0..section.count() {
             if let Some(job) = section.get(i) {
                 if let Err(fault) = job.offer_to(self) {

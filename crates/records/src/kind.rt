@@ -1,0 +1,30 @@
+// The kind of a message.
+ghost use Rattle.std.specs.Prelude.{◌≡◌};
+ghost use Rattle.records.specs.Kind.{kind_of};
+
+// Which run has to read the packets of a message.
+#[derive(Clone, Copy, PartialEq, Eq, Debug)]
+pub enum Kind {
+    // the one that is due with the packet's own period
+    Precedence,
+    // the one that is due a period later
+    NextPeriod,
+}
+
+// A byte that stands for no kind.
+#[derive(Clone, Copy, PartialEq, Eq, Debug)]
+pub struct UnknownKind(pub u8);
+
+impl TryFrom<u8> for Kind {
+    type Error = UnknownKind;
+
+    ghost try_from_gives = { λ code r. r ≡ kind_of code };
+
+    fn try_from(code: u8) -> Result<Kind, UnknownKind> {
+        match code {
+            0 => Ok(Kind::Precedence),
+            1 => Ok(Kind::NextPeriod),
+            _ => Err(UnknownKind(code)),
+        }
+    }
+}
