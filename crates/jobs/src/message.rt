@@ -15,6 +15,7 @@ use crate::task;
 use crate::way::Way;
 use fabric::Fabric;
 use holds::{Deliveries, least_slack};
+use records::kind::Kind;
 use records::record::{Message, Task};
 use refusals::refusal::Meeting;
 
@@ -22,7 +23,10 @@ use refusals::refusal::Meeting;
 pub fn timely(source: &Task, m: &Message) -> bool
     ensures { result ≡ message_timely source.now m.now }
 {
-    m.kind < 2 && m.delay < source.period && 1 <= m.width && m.width <= source.period
+    Kind::try_from(m.kind).is_ok()
+        && m.delay < source.period
+        && 1 <= m.width
+        && m.width <= source.period
 }
 
 // When packet 0 arrives: past the last link with its whole width, or, with no link, when it leaves.
@@ -41,10 +45,9 @@ fn arrives(way: &Way) -> u64
 fn slack_on(way: &Way, destination: &Task, m: &Message) -> Option<i64>
     ensures { result ≡ way_slack way.now destination.now m.now }
 {
-    let due = if m.kind == 0 {
-        0
-    } else {
-        u64::from(way.period)
+    let due = match Kind::try_from(m.kind) {
+        Ok(Kind::Precedence) => 0,
+        _ => u64::from(way.period),
     };
     let packets = Deliveries::new(arrives(way), due, way.period)?;
     Some(least_slack(packets, task::hold_of(destination)?))

@@ -3,26 +3,26 @@ ghost use Rattle.script.specs.Fields.{unhexed};
 ghost use Rattle.script.specs.Owned.{owned};
 ghost use Rattle.std.specs.Prelude.{◌≡◌, IfOk};
 
-use crate::text::digit;
 use std::alloc::{AllocError, Global};
 
 // The bytes that pairs of hexadecimal digits write.
 pub(crate) fn unhexed(heap: Global, text: &[u8]) -> Result<Option<Vec<u8>>, AllocError>
     ensures { IfOk result (λ bytes. owned bytes ≡ unhexed text.now) }
 {
-    let mut bytes = Vec::new(heap);
     if text.len() % 2 != 0 {
         return Ok(None);
     }
-    let mut i = 0;
-    while i + 1 < text.len() {
-        let high = digit(text[i]);
-        let low = digit(text[i + 1]);
-        if high >= 16 || low >= 16 {
+    let mut bytes = Vec::new(heap);
+    let mut rest = text;
+    while let [high, low, tail @ ..] = rest {
+        let (Some(high), Some(low)) = (
+            char::from(*high).to_digit(16),
+            char::from(*low).to_digit(16),
+        ) else {
             return Ok(None);
-        }
-        bytes.push(high * 16 + low)?;
-        i += 2;
+        };
+        bytes.push((high * 16 + low) as u8)?;
+        rest = tail;
     }
     Ok(Some(bytes))
 }

@@ -1,7 +1,7 @@
 // The parts of a line: its first words, and numbers between single spaces.
-ghost use Rattle.script.specs.Fields.{after, field, number, word_length};
-ghost use Rattle.std.specs.Prelude.{◌≡◌, ◌≤◌, length, IfSome, Some, None, MatchOption};
-ghost use Rattle.std.specs.Char.{digit_value};
+ghost use Rattle.script.specs.Fields.{after, field, number};
+ghost use Rattle.std.specs.Option.{option_map};
+ghost use Rattle.std.specs.Prelude.{◌≡◌, ℕ, ◌≤◌, Some, None, MatchOption};
 
 // What follows a fixed front.
 pub(crate) fn after<'a>(front: &[u8], text: &'a [u8]) -> Option<&'a [u8]>
@@ -10,47 +10,79 @@ pub(crate) fn after<'a>(front: &[u8], text: &'a [u8]) -> Option<&'a [u8]>
     text.strip_prefix(front)
 }
 
-// The value of a digit or letter of either case as a digit, and 36 for any other byte.
-pub(crate) fn digit(b: u8) -> u8
-    ensures value { result ≡ digit_value b }
-    ensures bound { result ≤ 36 }
-{
-    match b {
-        b'0'..=b'9' => b - b'0',
-        b'A'..=b'Z' => b - b'A' + 10,
-        b'a'..=b'z' => b - b'a' + 10,
-        _ => 36,
+// A type of numbers that a field may have.
+pub(crate) trait Number: Sized {
+    const MOST: u64;
+
+    ghost MOST: { ℕ };
+
+    ghost value: { Self → ℕ };
+
+    fn of(n: u64) -> Self
+        requires { n ≤ MOST }
+        ensures { value result ≡ n };
+}
+
+impl Number for u8 {
+    const MOST: u64 = 0xff;
+
+    ghost MOST = { 255 };
+
+    ghost value = { λ n. n };
+
+    fn of(n: u64) -> u8 {
+        n as u8
     }
 }
 
-// How many bytes stand before the first space.
-fn word_length(text: &[u8]) -> usize
-    ensures value { result ≡ word_length text.now }
-    ensures within { result ≤ length text.now }
-{
-    for (i, b) in text.iter().enumerate() {
-        if *b == b' ' {
-            return i;
-        }
+impl Number for u16 {
+    const MOST: u64 = 0xffff;
+
+    ghost MOST = { 65535 };
+
+    ghost value = { λ n. n };
+
+    fn of(n: u64) -> u16 {
+        n as u16
     }
-    text.len()
 }
 
-// The number that the decimal digits of a text write, if it is at most `most`.
-pub(crate) fn number(text: &[u8], most: u64) -> Option<u64>
+impl Number for u32 {
+    const MOST: u64 = 0xffff_ffff;
+
+    ghost MOST = { 4294967295 };
+
+    ghost value = { λ n. n };
+
+    fn of(n: u64) -> u32 {
+        n as u32
+    }
+}
+
+impl Number for u64 {
+    const MOST: u64 = 0xffff_ffff_ffff_ffff;
+
+    ghost MOST = { 18446744073709551615 };
+
+    ghost value = { λ n. n };
+
+    fn of(n: u64) -> u64 {
+        n
+    }
+}
+
+// The number that the decimal digits of a text write, if it is at most `most`. std's `parse` would take a sign too.
+fn value_of(text: &[u8], most: u64) -> Option<u64>
     ensures value { result ≡ number most text.now }
-    ensures bound { IfSome result (λ n. n ≤ most) }
+    ensures bound { MatchOption result (Unit {0}) (λ n. n ≤ most) }
 {
     if text.is_empty() {
         return None;
     }
     let mut value = 0u64;
     for b in text {
-        let d = digit(*b);
-        if d >= 10 {
-            return None;
-        }
-        let next = value as u128 * 10 + d as u128;
+        let digit = char::from(*b).to_digit(10)?;
+        let next = value as u128 * 10 + digit as u128;
         if next > most as u128 {
             return None;
         }
@@ -59,17 +91,17 @@ pub(crate) fn number(text: &[u8], most: u64) -> Option<u64>
     Some(value)
 }
 
-// The number before the first space, and what follows that space.
-pub(crate) fn field(text: &[u8], most: u64) -> Option<(u64, &[u8])>
-    ensures value { MatchOption result (field most text.now ≡ None) (λ p. field most text.now ≡ Some (p.0, p.1.now)) }
-    ensures bound { IfSome result (λ p. p.0 ≤ most) }
+// The number that a whole text writes, if it is one of the type.
+pub(crate) fn number<N: Number>(text: &[u8]) -> Option<N>
+    ensures { option_map N.value result ≡ number N.MOST text.now }
 {
-    let end = word_length(text);
-    if end >= text.len() {
-        return None;
-    }
-    match number(&text[0..end], most) {
-        Some(n) => Some((n, &text[end + 1..])),
-        None => None,
-    }
+    Some(N::of(value_of(text, N::MOST)?))
+}
+
+// The number before the first space, and what follows that space.
+pub(crate) fn field<N: Number>(text: &[u8]) -> Option<(N, &[u8])>
+    ensures { MatchOption result (field N.MOST text.now ≡ None) (λ p. field N.MOST text.now ≡ Some (N.value p.0, p.1.now)) }
+{
+    let end = text.iter().position(|b| *b == b' ')?;
+    Some((number(&text[..end])?, &text[end + 1..]))
 }
