@@ -108,10 +108,7 @@ pub(crate) fn holder_core(text: &[u8]) -> Option<Call<'static>>
 {
     let (core, text) = field(text)?;
     let instant = number(text)?;
-    Some(Call::CoreHolder {
-        core,
-        instant,
-    })
+    Some(Call::CoreHolder { core, instant })
 }
 
 pub(crate) fn holder_link(text: &[u8]) -> Option<Call<'static>>
@@ -119,8 +116,5 @@ pub(crate) fn holder_link(text: &[u8]) -> Option<Call<'static>>
 {
     let (link, text) = field(text)?;
     let instant = number(text)?;
-    Some(Call::LinkHolder {
-        link,
-        instant,
-    })
+    Some(Call::LinkHolder { link, instant })
 }

@@ -11,7 +11,7 @@ pub(crate) fn after<'a>(front: &[u8], text: &'a [u8]) -> Option<&'a [u8]>
 }
 
 // A type of numbers that a field may have.
-pub(crate) trait Number: Sized {
+pub(crate) trait Unsigned: Sized {
     const MOST: u64;
 
     ghost MOST: { ℕ };
@@ -23,7 +23,7 @@ pub(crate) trait Number: Sized {
         ensures { value result ≡ n };
 }
 
-impl Number for u8 {
+impl Unsigned for u8 {
     const MOST: u64 = 0xff;
 
     ghost MOST = { 255 };
@@ -35,7 +35,7 @@ impl Number for u8 {
     }
 }
 
-impl Number for u16 {
+impl Unsigned for u16 {
     const MOST: u64 = 0xffff;
 
     ghost MOST = { 65535 };
@@ -47,7 +47,7 @@ impl Number for u16 {
     }
 }
 
-impl Number for u32 {
+impl Unsigned for u32 {
     const MOST: u64 = 0xffff_ffff;
 
     ghost MOST = { 4294967295 };
@@ -59,7 +59,7 @@ impl Number for u32 {
     }
 }
 
-impl Number for u64 {
+impl Unsigned for u64 {
     const MOST: u64 = 0xffff_ffff_ffff_ffff;
 
     ghost MOST = { 18446744073709551615 };
@@ -92,14 +92,14 @@ fn value_of(text: &[u8], most: u64) -> Option<u64>
 }
 
 // The number that a whole text writes, if it is one of the type.
-pub(crate) fn number<N: Number>(text: &[u8]) -> Option<N>
+pub(crate) fn number<N: Unsigned>(text: &[u8]) -> Option<N>
     ensures { option_map N.value result ≡ number N.MOST text.now }
 {
     Some(N::of(value_of(text, N::MOST)?))
 }
 
 // The number before the first space, and what follows that space.
-pub(crate) fn field<N: Number>(text: &[u8]) -> Option<(N, &[u8])>
+pub(crate) fn field<N: Unsigned>(text: &[u8]) -> Option<(N, &[u8])>
     ensures { MatchOption result (field N.MOST text.now ≡ None) (λ p. field N.MOST text.now ≡ Some (N.value p.0, p.1.now)) }
 {
     let end = text.iter().position(|b| *b == b' ')?;
