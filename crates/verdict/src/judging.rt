@@ -32,14 +32,9 @@ fn judged_on<F: Fabric>(fabric: &F, part: &[u8]) -> Result<(usize, usize), FileF
 fn skip_sections(bytes: &[u8]) -> Result<&[u8], SetFault>
     ensures { MatchResult result (λ rest. mesh_sections bytes.now ≡ Ok rest.now) (λ e. mesh_sections bytes.now ≡ Err e) }
 {
-    let (_, rest) = match read_section::<Link>(bytes, 0) {
-        Ok(parts) => parts,
-        Err(fault) => return Err(SetFault::Links(fault)),
-    };
-    match read_section::<Route>(rest, 0) {
-        Ok((_, part)) => Ok(part),
-        Err(fault) => Err(SetFault::Routes(fault)),
-    }
+    let (_, rest) = read_section::<Link>(bytes, 0).map_err(SetFault::Links)?;
+    let (_, part) = read_section::<Route>(rest, 0).map_err(SetFault::Routes)?;
+    Ok(part)
 }
 
 fn judge_mesh(head: &Head, rest: &[u8]) -> Result<(usize, usize), FileFault>
