@@ -2,6 +2,7 @@
 #![tactic(auto)]
 
 pub mod line;
-mod put;
+mod pen;
 pub mod refusal;
+mod text;
 pub mod words;

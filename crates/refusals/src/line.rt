@@ -3,65 +3,73 @@ ghost use Rattle.std.specs.Prelude.{◌≡◌, ◌+◌, ◌≤◌, length, IfOk,
 ghost use Rattle.refusals.specs.Lines.{line_of, detail_text, too_short};
 ghost use Rattle.refusals.specs.Written.{written};
 
-use crate::put::{put, put_number};
+use crate::pen::Pen;
 use crate::refusal::{BufferFault, Detail, Told};
 use crate::words::word;
 
 // No line is longer, so a buffer of this length takes any.
 const LONGEST_LINE: usize = 64;
 
-fn put_clear(out: &mut [u8], tasks: usize, messages: usize) -> usize
-    requires { 64 ≤ length out.old }
-    ensures end { result ≡ length (line_of (Ok (tasks, messages))) }
-    ensures bound { result ≤ 64 }
-    ensures holds { out.new ≡ written out.old 0 (line_of (Ok (tasks, messages))) }
-{
-    let at = put(out, 0, b"CLEAR ");
-    let at = put_number(out, at, tasks);
-    let at = put(out, at, b" ");
-    let at = put_number(out, at, messages);
-    put(out, at, b"\n")
-}
+impl Pen<'_> {
+    fn put_clear(&mut self, tasks: usize, messages: usize)
+        requires { self.old.at + 64 ≤ length self.old.out.now }
+        ensures same { self.new.out.ghost_name ≡ self.old.out.ghost_name }
+        ensures room { length self.new.out.now ≡ length self.old.out.now }
+        ensures end { self.new.at ≡ self.old.at + length (line_of (Ok (tasks, messages))) }
+        ensures bound { self.new.at ≤ self.old.at + 64 }
+        ensures holds { self.new.out.now ≡ written self.old.out.now self.old.at (line_of (Ok (tasks, messages))) }
+    {
+        self.put(b"CLEAR ");
+        self.put_number(tasks);
+        self.put(b" ");
+        self.put_number(messages);
+        self.put(b"\n");
+    }
 
-fn put_detail(out: &mut [u8], at: usize, detail: Detail) -> usize
-    requires { at + 33 ≤ length out.old }
-    ensures end { result ≡ at + length (detail_text detail) }
-    ensures bound { result ≤ at + 33 }
-    ensures holds { out.new ≡ written out.old at (detail_text detail) }
-{
-    match detail {
-        Detail::Plain => at,
-        Detail::Slack(z) => {
-            let at = put(out, at, b" ");
-            put_number(out, at, z)
-        }
-        Detail::Meeting(meeting) => {
-            let at = put(out, at, b" ");
-            let at = put_number(out, at, meeting.instant);
-            let at = put(out, at, b" ");
-            let at = put_number(out, at, meeting.held);
-            let at = put(out, at, b" ");
-            put_number(out, at, meeting.place)
+    fn put_detail(&mut self, detail: Detail)
+        requires { self.old.at + 33 ≤ length self.old.out.now }
+        ensures same { self.new.out.ghost_name ≡ self.old.out.ghost_name }
+        ensures room { length self.new.out.now ≡ length self.old.out.now }
+        ensures end { self.new.at ≡ self.old.at + length (detail_text detail) }
+        ensures bound { self.new.at ≤ self.old.at + 33 }
+        ensures holds { self.new.out.now ≡ written self.old.out.now self.old.at (detail_text detail) }
+    {
+        match detail {
+            Detail::Plain => {}
+            Detail::Slack(z) => {
+                self.put(b" ");
+                self.put_number(z);
+            }
+            Detail::Meeting(meeting) => {
+                self.put(b" ");
+                self.put_number(meeting.instant);
+                self.put(b" ");
+                self.put_number(meeting.held);
+                self.put(b" ");
+                self.put_number(meeting.place);
+            }
         }
     }
-}
 
-fn put_refused(out: &mut [u8], told: Told) -> usize
-    requires { 64 ≤ length out.old }
-    ensures end { result ≡ length (line_of (Err told)) }
-    ensures bound { result ≤ 64 }
-    ensures holds { out.new ≡ written out.old 0 (line_of (Err told)) }
-{
-    let at = put(out, 0, b"REFUSED ");
-    let at = put_number(out, at, told.section);
-    let at = put(out, at, b" ");
-    let at = put_number(out, at, told.record);
-    let at = put(out, at, b" ");
-    let at = put_number(out, at, told.refusal.number);
-    let at = put(out, at, b" ");
-    let at = put(out, at, word(told.refusal.number));
-    let at = put_detail(out, at, told.refusal.detail);
-    put(out, at, b"\n")
+    fn put_refused(&mut self, told: Told)
+        requires { self.old.at + 64 ≤ length self.old.out.now }
+        ensures same { self.new.out.ghost_name ≡ self.old.out.ghost_name }
+        ensures room { length self.new.out.now ≡ length self.old.out.now }
+        ensures end { self.new.at ≡ self.old.at + length (line_of (Err told)) }
+        ensures bound { self.new.at ≤ self.old.at + 64 }
+        ensures holds { self.new.out.now ≡ written self.old.out.now self.old.at (line_of (Err told)) }
+    {
+        self.put(b"REFUSED ");
+        self.put_number(told.section);
+        self.put(b" ");
+        self.put_number(told.record);
+        self.put(b" ");
+        self.put_number(told.refusal.number);
+        self.put(b" ");
+        self.put(word(told.refusal.number));
+        self.put_detail(told.refusal.detail);
+        self.put(b"\n");
+    }
 }
 
 // Writes the line of a verdict, the counts of tasks and messages or what is refused, to the start of the buffer and answers its
@@ -77,10 +85,12 @@ pub fn write_line(
     if out.len() < LONGEST_LINE {
         return Err(BufferFault);
     }
-    Ok(match verdict {
-        Ok((tasks, messages)) => put_clear(out, tasks, messages),
-        Err(told) => put_refused(out, told),
-    })
+    let mut pen = Pen { out, at: 0 };
+    match verdict {
+        Ok((tasks, messages)) => pen.put_clear(tasks, messages),
+        Err(told) => pen.put_refused(told),
+    }
+    Ok(pen.at)
 }
 
 #[cfg(test)]

@@ -42,3 +42,10 @@ pub fn word(number: u8) -> &'static [u8]
         _ => &[],
     }
 }
+
+// The same as text.
+pub(crate) fn word_text(number: u8) -> &'static str
+    ensures { result.now ≡ word_of number }
+{
+    str::from_utf8(word(number)).unwrap_or("")
+}

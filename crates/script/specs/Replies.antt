@@ -1,13 +1,9 @@
 -- The text of each reply: a word in upper case, and its values after single spaces. Assumes nothing.
---   refused_text    a refusal: its number, its word and its values
---   told_text       the same with section and record before the number
 --   answer_text     what a call answers
 --   reply_text      what a line is answered
 use Rattle.std.specs.Prelude.{◌≡◌, ℕ, List, ◌++◌, Some, None, Ok, Err, codes, decimal, Option, Result}
 use Rattle.std.specs.Fmt.{signed_decimal}
-use Rattle.refusals.specs.Lines.{detail_text, line_of}
-use Rattle.refusals.specs.Words.{word_of}
-use Rattle.refusals.specs.declared.refusal.Refusal.{Refusal}
+use Rattle.refusals.specs.Lines.{line_of, refused_text, told_text}
 use Rattle.refusals.specs.declared.refusal.Told.{Told}
 use Rattle.jobs.specs.Numbers.{task_told, message_told, placing_told, drop_told, place_told}
 use Rattle.jobs.specs.declared.fault.PlaceFault.{PlaceFault}
@@ -17,15 +13,7 @@ use Rattle.replay.specs.declared.calls.Answer.TheVariants as answer
 use Rattle.script.specs.declared.reply.Reply.{Reply}
 use Rattle.script.specs.declared.reply.Reply.TheVariants as reply
 
-abbrev pub refused_text : Refusal → List ℕ
-refused_text r = codes "REFUSED " ++ decimal r.number ++ codes " " ++ word_of r.number ++ detail_text r.detail
-
--- the verdict line of the same refusal, but for its newline
-abbrev pub told_text : Told → List ℕ
-told_text t =
-    codes "REFUSED " ++ decimal t.section ++ codes " " ++ decimal t.«record» ++ codes " " ++ decimal t.refusal.number ++ codes " " ++ word_of t.refusal.number
-    ++ detail_text t.refusal.detail
-
+-- a refusal with section and record is the verdict line of the same refusal, but for its newline
 abbrev pub ToldAsVerdicts : Type 0
 ToldAsVerdicts = (t : Told) → line_of (Err t) ≡ told_text t ++ codes "\n"
 

@@ -1,53 +1,25 @@
 // Showing a reply as text.
-ghost use Rattle.refusals.specs.Lines.{detail_text};
-ghost use Rattle.script.specs.Replies.{ToldAsVerdicts, answer_text, holder_text, refused_text, reply_text, told_text};
-ghost use Rattle.std.specs.Prelude.{◌≡◌, IfOk, string_bytes};
+ghost use Rattle.refusals.specs.Lines.{refused_text, told_text};
+ghost use Rattle.script.specs.Replies.{ToldAsVerdicts, answer_text, holder_text, reply_text};
+ghost use Rattle.std.specs.Prelude.{◌≡◌, IfOk};
 
 use crate::reply::Reply;
 use jobs::fault::PlaceFault;
-use refusals::refusal::{Detail, Meeting, Refusal, Told};
-use refusals::words::word;
+use refusals::refusal::{Refusal, Told};
 use replay::calls::Answer;
 use std::alloc::{AllocError, Global};
-
-// The values that stand after the word of a refusal.
-fn show_detail(heap: Global, detail: Detail) -> Result<String, AllocError>
-    ensures { IfOk result (λ s. string_bytes s ≡ detail_text detail) }
-{
-    match detail {
-        Detail::Plain => Ok(String::new(heap)),
-        Detail::Slack(least) => format!(in heap; " {least}"),
-        Detail::Meeting(
-            Meeting {
-                instant,
-                held,
-                place,
-            },
-        ) => format!(in heap; " {instant} {held} {place}"),
-    }
-}
 
 fn show_refused(heap: Global, refusal: Refusal) -> Result<Vec<u8>, AllocError>
     ensures { IfOk result (λ v. v.items ≡ refused_text refusal) }
 {
-    let number = refusal.number;
-    let mut text = format!(in heap; "REFUSED {number} ")?.into_bytes();
-    text.extend_from_slice(word(number))?;
-    text.extend_from_slice(show_detail(heap, refusal.detail)?.as_bytes())?;
-    Ok(text)
+    Ok(format!(in heap; "{refusal}")?.into_bytes())
 }
 
 // A refusal with its section and record before it.
 fn show_told(heap: Global, told: Told) -> Result<Vec<u8>, AllocError>
     ensures { IfOk result (λ v. v.items ≡ told_text told) }
 {
-    let section = told.section;
-    let record = told.record;
-    let number = told.refusal.number;
-    let mut text = format!(in heap; "REFUSED {section} {record} {number} ")?.into_bytes();
-    text.extend_from_slice(word(number))?;
-    text.extend_from_slice(show_detail(heap, told.refusal.detail)?.as_bytes())?;
-    Ok(text)
+    Ok(format!(in heap; "{told}")?.into_bytes())
 }
 
 fn show_holder(
@@ -59,7 +31,7 @@ fn show_holder(
     match *answer {
         Ok(Some((name, run))) => Ok(format!(in heap; "HELD {name} {run}")?.into_bytes()),
         Ok(None) => Vec::from_slice(heap, b"FREE"),
-        Err(fault) => show_refused(heap, fault.into()),
+        Err(fault) => show_refused(heap, Refusal::from(fault)),
     }
 }
 

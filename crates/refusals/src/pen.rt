@@ -1,0 +1,37 @@
+// A buffer that texts and decimal numbers are written into one after the other.
+ghost use Rattle.std.specs.Prelude.{◌≡◌, ◌+◌, ◌≤◌, length};
+ghost use Rattle.refusals.specs.Written.{written};
+
+use itoa::{Buffer, Integer};
+
+// The buffer, and where its next text begins.
+#[derive(Drop)]
+pub(crate) struct Pen<'a> {
+    pub(crate) out: &'a mut [u8],
+    pub(crate) at: usize,
+}
+
+impl Pen<'_> {
+    pub(crate) fn put(&mut self, text: &[u8])
+        requires { self.old.at + length text.now ≤ length self.old.out.now }
+        ensures same { self.new.out.ghost_name ≡ self.old.out.ghost_name }
+        ensures room { length self.new.out.now ≡ length self.old.out.now }
+        ensures end { self.new.at ≡ self.old.at + length text.now }
+        ensures holds { self.new.out.now ≡ written self.old.out.now self.old.at text.now }
+    {
+        let end = self.at + text.len();
+        self.out[self.at..end].copy_from_slice(text);
+        self.at = end;
+    }
+
+    pub(crate) fn put_number<I: Integer>(&mut self, n: I)
+        requires { self.old.at + I.MAX_STR_LEN ≤ length self.old.out.now }
+        ensures same { self.new.out.ghost_name ≡ self.old.out.ghost_name }
+        ensures room { length self.new.out.now ≡ length self.old.out.now }
+        ensures end { self.new.at ≡ self.old.at + length (I.text n) }
+        ensures bound { self.new.at ≤ self.old.at + I.MAX_STR_LEN }
+        ensures holds { self.new.out.now ≡ written self.old.out.now self.old.at (I.text n) }
+    {
+        self.put(Buffer::new().format(n).as_bytes());
+    }
+}
