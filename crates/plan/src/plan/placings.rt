@@ -38,9 +38,7 @@ impl<'f, F: Fabric> Plan<'f, F> {
         ensures answer { result ≡ (place_message (setting F.Fabric.meaning self.now) (jobs self.now) m.now).0 }
         ensures room { is_ok result ≡ true → length (jobs self.now).messages < 128 }
     {
-        let ends = self
-            .message_checks(&m.at(0))
-            .map_err(PlacingFault::Offer)?;
+        let ends = self.message_checks(&m.at(0)).map_err(PlacingFault::Offer)?;
         self.board()
             .first_delay(&ends, m)
             .ok_or(PlacingFault::NoFit)
