@@ -1,8 +1,10 @@
 -- How the parts of a line are read, byte by byte. Assumes nothing.
-use Rattle.std.proofs.Common.{◌≡◌, ℕ, ◌+◌, ◌-◌, ◌*◌, ◌%◌, ◌<◌, ◌≤◌, Bool, true, false, cond, ◌&&◌, ltb, leb, ◌⊎◌, List, [], ◌∷◌, ◌++◌, length, get_or, take, drop, Some, None, Option, sym, refl, ap, ◌∙◌, inl, inr, arith, Bor, MatchOption}
+use Rattle.std.proofs.Common.{◌≡◌, ℕ, ◌+◌, ◌-◌, ◌*◌, ◌%◌, ◌<◌, ◌≤◌, Bool, true, false, cond, not, ◌&&◌, ◌==◌, ltb, leb, ◌⊎◌, List, [], ◌∷◌, ◌++◌, length, get_or, take, drop, Some, None, Option, sym, refl, ap, ◌∙◌, inl, inr, arith, Bor, MatchOption}
 use Rattle.std.proofs.lemmas.List.{at_drop_more, at_drop_all, append_assoc, append-nil, drop_more, take_rest}
 use Rattle.std.proofs.lemmas.Bool.Decides.{eqb_tells, leb_tells, nat_tests}
 use Rattle.std.specs.Str.Parse.{digits_value_after}
+use Rattle.std.specs.Option.{SomeIff}
+use Rattle.std.specs.List.{position, position_or_len}
 use Rattle.std.specs.Char.{digit_value, is_ascii_digit}
 use Rattle.std.specs.Str.{all_ascii_digits}
 use Rattle.script.specs.Fields.{after, field, number, pair, then, unhexed, word_length}
@@ -92,21 +94,31 @@ pub some_at : (most n i : ℕ) (text : List ℕ) → 0 < length text → length 
 some_at most n i text some h small inv =
     sym (read_all most n small) ∙ sym (at_drop_all (read_on most n) text i h) ∙ inv ∙ number_is most text some
 
--- a word that is a number is a field with what follows its space
-pub field_some : (most n end : ℕ) (text : List ℕ) → end ≡ word_length text → end < length text → Some n ≡ number most (take (end - 0) text) → field most text ≡ Some (n, take (length text - (end + 1)) (drop (end + 1) text))
-field_some most n end text is within has =
-    let e : end - 0 ≡ end = omega arith in
-    let t : ltb end (length text) ≡ true = grind (arith, nat_tests) in
-    let h : number most (take end text) ≡ Some n = sym (rw e at has) in
-    rw (take_rest, ← is, t, h)
+-- the first space ends the word
+word_is : (text : List ℕ) → position_or_len (λ b. b == 32) text ≡ word_length text
+word_is [] = refl
+word_is (b ∷ bs) =
+    elim (b == 32) as (λ t. cond (not t) (1 + position_or_len (λ x. x == 32) bs) 0 ≡ cond t 0 (1 + word_length bs))
+    [ true ↦ refl | false ↦ ap (λ n. 1 + n) (word_is bs) ]
 
--- and one that is none is no field
-pub field_none : (most end : ℕ) (text : List ℕ) → end ≡ word_length text → end < length text → None ≡ number most (take (end - 0) text) → field most text ≡ None
-field_none most end text is within has =
-    let e : end - 0 ≡ end = omega arith in
-    let t : ltb end (length text) ≡ true = grind (arith, nat_tests) in
-    let h : number most (take end text) ≡ None = sym (rw e at has) in
-    rw (← is, t, h)
+space_is : (text : List ℕ) → position (λ b. b == 32) text ≡ cond (ltb (word_length text) (length text)) (Some (word_length text)) None
+space_is text = ap (λ n. cond (ltb n (length text)) (Some n) None) (word_is text)
+
+-- without a space there is no field
+pub field_unended : (most : ℕ) (text : List ℕ) → position (λ b. b == 32) text ≡ None → field most text ≡ None
+field_unended most text none = go (ltb (word_length text) (length text)) refl (sym (space_is text) ∙ none)
+  where
+    go : (t : Bool) → ltb (word_length text) (length text) ≡ t → cond t (Some (word_length text)) None ≡ None → field most text ≡ None
+    go true is e = let z : ◌≡◌ {A = ℕ} 0 1 = cc in absurd (omega arith)
+    go false is e = rw is
+
+-- up to the first space stands the field's number, or none
+pub field_ended : (most end : ℕ) (text : List ℕ) → position (λ b. b == 32) text ≡ Some end → field most text ≡ then (number most (take end text)) (λ n. Some (n, drop (end + 1) text))
+field_ended most end text at = go (ltb (word_length text) (length text)) refl (sym (space_is text) ∙ at)
+  where
+    go : (t : Bool) → ltb (word_length text) (length text) ≡ t → cond t (Some (word_length text)) None ≡ Some end → field most text ≡ then (number most (take end text)) (λ n. Some (n, drop (end + 1) text))
+    go true is e = let same : word_length text ≡ end = cc in rw (is, same)
+    go false is e = let z : ◌≡◌ {A = ℕ} 0 1 = cc in absurd (omega arith)
 
 -- bytes in front of those that are left to read
 abbrev pub in_front : List ℕ → Option (List ℕ) → Option (List ℕ)
@@ -122,17 +134,22 @@ unhexed_odd [] h = absurd (h refl)
 unhexed_odd (a ∷ []) h = refl
 unhexed_odd (a ∷ (b ∷ rest)) h = rw (← unhexed_odd rest (λ e. h (omega arith))) (sym (pair_of_none a b))
 
--- two digits at a place, and those after them
-two_at : {Y : Type 0} (F : List ℕ → Y) (text : List ℕ) (i : ℕ) → i + 1 < length text → F (drop i text) ≡ F (get_or text i 0 ∷ (get_or text (i + 1) 0 ∷ drop (i + 2) text))
-two_at F text i h =
-    let e : i + 1 + 1 ≡ i + 2 = omega arith in
-    ap F (drop_more text i 0 (omega arith) ∙ ap (λ l. get_or text i 0 ∷ l) (rw e at (drop_more text (i + 1) 0 h)))
+-- a character that answers no digit has none
+pub no_digit : (o : Option ℕ) (n radix v : ℕ) → SomeIff o (n < radix) v → o ≡ None → radix ≤ n
+no_digit None n radix v h e = omega (arith, h)
+no_digit (Some x) n radix v h e = let z : ◌≡◌ {A = ℕ} 0 1 = cc in absurd (omega arith)
+
+-- two digits, and those after them
+two_first : {Y : Type 0} (F : List ℕ → Y) (rest : List ℕ) → 2 ≤ length rest → F rest ≡ F (get_or rest 0 0 ∷ (get_or rest 1 0 ∷ drop 2 rest))
+two_first F [] h = absurd (omega arith)
+two_first F (a ∷ []) h = absurd (omega arith)
+two_first F (a ∷ (b ∷ rest)) h = refl
 
 -- what is no digit ends the reading
-pub unhexed_none : (text bs : List ℕ) (i a b : ℕ) → i + 1 < length text → a ≡ digit_value (get_or text i 0) → b ≡ digit_value (get_or text (i + 1) 0) → (16 ≤ a) ⊎ ((a < 16) × (16 ≤ b)) → in_front bs (unhexed (drop i text)) ≡ unhexed text → None ≡ unhexed text
-unhexed_none text bs i a b h isa isb other inv =
-    let t : (ltb (digit_value (get_or text i 0)) 16 && ltb (digit_value (get_or text (i + 1) 0)) 16) ≡ false = rw (← isa, ← isb) (elim other [ inl p ↦ grind (arith, nat_tests) | inr p ↦ grind (arith, nat_tests) ]) in
-    let e : in_front bs (unhexed (drop i text)) ≡ None = two_at (λ l. in_front bs (unhexed l)) text i h ∙ rw t in
+pub unhexed_none : (rest bs : List ℕ) (all : Option (List ℕ)) → 2 ≤ length rest → (16 ≤ digit_value (get_or rest 0 0)) ⊎ (16 ≤ digit_value (get_or rest 1 0)) → in_front bs (unhexed rest) ≡ all → None ≡ all
+unhexed_none rest bs all h other inv =
+    let t : (ltb (digit_value (get_or rest 0 0)) 16 && ltb (digit_value (get_or rest 1 0)) 16) ≡ false = elim other [ inl p ↦ grind (arith, nat_tests) | inr p ↦ grind (arith, nat_tests) ] in
+    let e : in_front bs (unhexed rest) ≡ None = two_first (λ l. in_front bs (unhexed l)) rest h ∙ rw t in
     sym e ∙ inv
 
 pushed_front : (bs : List ℕ) (x : ℕ) (rest : Option (List ℕ)) → in_front bs (then rest (λ more. Some (x ∷ more))) ≡ in_front (bs ++ (x ∷ [])) rest
@@ -140,14 +157,16 @@ pushed_front bs x None = refl
 pushed_front bs x (Some more) = ap Some (sym (append_assoc bs (x ∷ []) more))
 
 -- a byte more is read
-pub unhexed_more : (text bs more : List ℕ) (i a b : ℕ) → i + 1 < length text → a ≡ digit_value (get_or text i 0) → b ≡ digit_value (get_or text (i + 1) 0) → a < 16 → b < 16 → more ≡ bs ++ ((a * 16 + b) ∷ []) → in_front bs (unhexed (drop i text)) ≡ unhexed text → in_front more (unhexed (drop (i + 2) text)) ≡ unhexed text
-unhexed_more text bs more i a b h isa isb ha hb grown inv =
-    let t : (ltb (digit_value (get_or text i 0)) 16 && ltb (digit_value (get_or text (i + 1) 0)) 16) ≡ true = rw (← isa, ← isb) (grind (arith, nat_tests)) in
-    let x = digit_value (get_or text i 0) * 16 + digit_value (get_or text (i + 1) 0) in
-    let e : in_front bs (unhexed (drop i text)) ≡ in_front (bs ++ (x ∷ [])) (unhexed (drop (i + 2) text)) =
-    two_at (λ l. in_front bs (unhexed l)) text i h ∙ rw t (pushed_front bs x (unhexed (drop (i + 2) text))) in
+pub unhexed_more : (rest bs more : List ℕ) (all : Option (List ℕ)) (a b : ℕ) → 2 ≤ length rest → a ≡ digit_value (get_or rest 0 0) → b ≡ digit_value (get_or rest 1 0) → a < 16 → b < 16 → more ≡ bs ++ ((a * 16 + b) ∷ []) → in_front bs (unhexed rest) ≡ all → in_front more (unhexed (drop 2 rest)) ≡ all
+unhexed_more rest bs more all a b h isa isb ha hb grown inv =
+    let t : (ltb (digit_value (get_or rest 0 0)) 16 && ltb (digit_value (get_or rest 1 0)) 16) ≡ true = rw (← isa, ← isb) (grind (arith, nat_tests)) in
+    let x = digit_value (get_or rest 0 0) * 16 + digit_value (get_or rest 1 0) in
+    let e : in_front bs (unhexed rest) ≡ in_front (bs ++ (x ∷ [])) (unhexed (drop 2 rest)) =
+    two_first (λ l. in_front bs (unhexed l)) rest h ∙ rw t (pushed_front bs x (unhexed (drop 2 rest))) in
     rw (grown, isa, isb) (sym e ∙ inv)
 
--- the whole text is read
-pub unhexed_all : (text bs : List ℕ) (i : ℕ) → length text ≤ i → in_front bs (unhexed (drop i text)) ≡ unhexed text → Some bs ≡ unhexed text
-unhexed_all text bs i h inv = ap Some (sym (append-nil bs)) ∙ sym (at_drop_all (λ l. in_front bs (unhexed l)) text i h) ∙ inv
+-- an even number of digits that is below two is none
+pub unhexed_all : (rest bs : List ℕ) (all : Option (List ℕ)) → length rest < 2 → length rest % 2 ≡ 0 → in_front bs (unhexed rest) ≡ all → Some bs ≡ all
+unhexed_all [] bs all h even inv = ap Some (sym (append-nil bs)) ∙ inv
+unhexed_all (a ∷ []) bs all h even inv = absurd (omega arith)
+unhexed_all (a ∷ (b ∷ rest)) bs all h even inv = absurd (omega arith)

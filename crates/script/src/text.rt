@@ -1,7 +1,7 @@
 // The parts of a line: its first words, and numbers between single spaces.
 ghost use Rattle.script.specs.Fields.{after, field, number};
 ghost use Rattle.std.specs.Option.{option_map};
-ghost use Rattle.std.specs.Prelude.{◌≡◌, ℕ, ◌≤◌, Some, None, MatchOption};
+ghost use Rattle.std.specs.Prelude.{◌≡◌, ℕ, ◌==◌, ◌≤◌, position, Some, None, MatchOption};
 
 // What follows a fixed front.
 pub(crate) fn after<'a>(front: &[u8], text: &'a [u8]) -> Option<&'a [u8]>
@@ -98,10 +98,17 @@ pub(crate) fn number<N: Unsigned>(text: &[u8]) -> Option<N>
     Some(N::of(value_of(text, N::MOST)?))
 }
 
+// Where the first space stands.
+fn space(text: &[u8]) -> Option<usize>
+    ensures { result ≡ position (λ b. b == 32) text.now }
+{
+    text.iter().position(|b| *b == b' ')
+}
+
 // The number before the first space, and what follows that space.
 pub(crate) fn field<N: Unsigned>(text: &[u8]) -> Option<(N, &[u8])>
     ensures { MatchOption result (field N.MOST text.now ≡ None) (λ p. field N.MOST text.now ≡ Some (N.value p.0, p.1.now)) }
 {
-    let end = text.iter().position(|b| *b == b' ')?;
+    let end = space(text)?;
     Some((number(&text[..end])?, &text[end + 1..]))
 }

@@ -1,14 +1,24 @@
-use Rattle.script.proofs.Texts.{field_some, field_none}
+use Rattle.std.proofs.Common.{◌≡◌, ◌+◌, ◌-◌, ◌==◌, drop, take, position, Some, None, ap, sym, ◌∙◌, rules}
+use native.Mathlib.Nat.{sub-zero}
+use Rattle.std.proofs.lemmas.List.{take_rest}
+use Rattle.script.specs.Fields.{field, number, then}
+use Rattle.script.proofs.Texts.{field_ended, field_unended}
 use Rattle.script.proofs.text.field.Goals as goal
 
-pub returns-in-Some : goal.returns-in-Some
-returns-in-Some c = record {
-  value = field_some c.args.most c.in-Some.n c.word_length-end.result c.args.text.now c.word_length-end.ensures.value c.if-end-text.false c.in-Some.ensures.value;
-  bound = c.in-Some.ensures.bound;
-}
+pub returns-in_err-end : goal.returns-in_err-end
+returns-in_err-end g c =
+    let none : position (λ b. b == 32) c.args.text.now ≡ None = search rules in
+    let unended = field_unended g.N.Unsigned.MOST c.args.text.now none in
+    search rules
 
-pub returns-in-None : goal.returns-in-None
-returns-in-None c = record {
-  value = field_none c.args.most c.word_length-end.result c.args.text.now c.word_length-end.ensures.value c.if-end-text.false c.in-None.ensures.value;
-  bound = tt;
-}
+pub returns-in_err-number : goal.returns-in_err-number
+returns-in_err-number g c =
+    let at : position (λ b. b == 32) c.args.text.now ≡ Some c.in_ok-end.end = search rules in
+    let ended = field_ended g.N.Unsigned.MOST c.in_ok-end.end c.args.text.now at in
+    search rules
+
+pub returns : goal.returns
+returns g c =
+    let at : position (λ b. b == 32) c.args.text.now ≡ Some c.in_ok-end.end = search rules in
+    let ended = field_ended g.N.Unsigned.MOST c.in_ok-end.end c.args.text.now at in
+    search (rules, take_rest)

@@ -1,6 +1,6 @@
 use Rattle.std.proofs.Common.{◌≡◌, ◌≤◌, drop}
 use Rattle.script.proofs.Texts.{read_on}
-use Rattle.script.proofs.text.number.Given as goal
+use Rattle.script.proofs.text.value_of.Given as goal
 
 -- the number so far and the digits that are left make the whole
 abbrev pub invariant-loop-b : goal.invariant-loop-b
