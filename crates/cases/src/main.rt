@@ -2,50 +2,39 @@
 // Prints the verdict line on each, or the refusal of the buffer.
 #![tactic(auto)]
 
-ghost use Rattle.std.specs.Prelude.{◌<◌, ◌≤◌, length};
+ghost use Rattle.std.specs.Prelude.{◌<◌};
 
 use anyhow::anyhow;
 use refusals::refusal::Refusal;
 use refusals::words::word;
+use std::alloc::{AllocError, Global};
 use std::io::{BufRead, BufReader, Write};
 use verdict::judge;
-
-// More than any plan file of the table has.
-const FILE_ROOM: usize = 8300;
 
 const BUFFER_ROOM: usize = 128;
 
 fn digit(b: u8) -> u8
     ensures { result < 16 }
 {
-    match b {
-        b'0'..=b'9' => b - b'0',
-        b'A'..=b'F' => b - b'A' + 10,
-        b'a'..=b'f' => b - b'a' + 10,
-        _ => 0,
-    }
+    char::from(b).to_digit(16).map_or(0, |d| d as u8)
 }
 
-// Writes the bytes that the digits stand for, two digits to a byte, and answers how many there are.
-fn decode(text: &[u8], file: &mut [u8]) -> usize
-    ensures { result ≤ length file.new }
-{
-    let mut n = 0;
-    for pair in text.chunks_exact(2) {
-        if n < file.len() && pair.len() == 2 {
-            file[n] = digit(pair[0]) * 16 + digit(pair[1]);
-            n += 1;
-        }
+// The bytes that the digits stand for, two digits to a byte.
+fn decode(heap: Global, text: &[u8]) -> Result<Vec<u8>, AllocError> {
+    let mut file = Vec::new(heap);
+    let mut rest = text;
+    while let [high, low, tail @ ..] = rest {
+        file.push(digit(*high) * 16 + digit(*low))?;
+        rest = tail;
     }
-    n
+    Ok(file)
 }
 
-fn show<W: Write>(out: &mut W, room: usize, text: &str) -> anyhow::Result<()> {
-    let mut file = [0u8; FILE_ROOM];
-    let size = decode(text.as_bytes(), &mut file);
+fn show<W: Write>(heap: Global, out: &mut W, room: usize, text: &str) -> anyhow::Result<()> {
+    let file = decode(heap, text.as_bytes())?;
     let mut buffer = [0u8; BUFFER_ROOM];
     let line = &mut buffer[0..room.min(BUFFER_ROOM)];
-    match judge(&file[0..size], line) {
+    match judge(&file, line) {
         Ok(end) => out.write_all(&line[0..end])?,
         Err(fault) => {
             let number = Refusal::from(fault).number;
@@ -64,7 +53,7 @@ fn run(rt: &HostRuntime) -> anyhow::Result<()> {
         let Some((room, text)) = line.as_str().split_once(' ') else {
             return Err(anyhow!("a line without a space"));
         };
-        show(&mut out, room.parse::<usize>()?, text)?;
+        show(rt.alloc(), &mut out, room.parse::<usize>()?, text)?;
     }
     Ok(())
 }

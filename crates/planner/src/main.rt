@@ -1,8 +1,6 @@
 // Runs the script that standard input holds, and prints each line with what it is answered.
 #![tactic(auto)]
 
-ghost use Rattle.std.specs.Prelude.{◌≡◌, length, IfOk, vec_len};
-
 use anyhow::Context;
 use fabric::mesh::Mesh;
 use listed::Listed;
@@ -15,26 +13,17 @@ use script::running::run_lines;
 use script::showing::show;
 use std::alloc::{AllocError, Global};
 use std::io::{Read, Write};
+use std::vec::IntoIter;
 
 // The lines of a text, without their newlines; a final newline makes no line.
 fn split(heap: Global, text: &[u8]) -> Result<Vec<&[u8]>, AllocError> {
-    let mut lines = Vec::new(heap);
-    let mut from = 0;
-    for (i, b) in text.iter().enumerate() {
-        if *b == b'\n' {
-            lines.push(&text[from..i])?;
-            from = i + 1;
-        }
-    }
-    if from < text.len() {
-        lines.push(&text[from..])?;
-    }
-    Ok(lines)
+    text.strip_suffix(b"\n")
+        .unwrap_or(text)
+        .split(|b| *b == b'\n')
+        .collect(heap)
 }
 
-fn read_all(heap: Global, texts: &[&[u8]]) -> Result<Vec<Line>, AllocError>
-    ensures { IfOk result (λ v. vec_len v ≡ length texts.now) }
-{
+fn read_all(heap: Global, texts: &[&[u8]]) -> Result<Vec<Line>, AllocError> {
     let mut lines = Vec::new(heap);
     for text in texts {
         lines.push(read_line(heap, text)?)?;
@@ -68,15 +57,15 @@ fn answers_of(heap: Global, lines: &[Line]) -> Result<Vec<Answer>, AllocError> {
     run_lines(heap, &fabric, lines)
 }
 
-// Adds each line that is not blank, with what it is answered.
+// Adds each line that is not blank, with what it is answered. The texts go on with those of these lines.
 fn print_lines(
     heap: Global,
     out: &mut Vec<u8>,
-    texts: &[&[u8]],
+    texts: &mut IntoIter<&[u8]>,
     lines: &[Line],
 ) -> anyhow::Result<()> {
     let mut answers = answers_of(heap, lines)?.into_iter();
-    for (text, line) in texts.iter().zip(lines) {
+    for (line, text) in lines.iter().zip(texts) {
         let reply = match line {
             Line::Blank => continue,
             Line::Unread => Reply::Unread,
@@ -98,15 +87,11 @@ fn print_lines(
 fn transcript(heap: Global, text: &[u8]) -> anyhow::Result<Vec<u8>> {
     let texts = split(heap, text)?;
     let lines = read_all(heap, &texts)?;
+    let mut texts = texts.into_iter();
     let mut out = Vec::new(heap);
-    let mut from = 0;
-    for (to, line) in lines.iter().enumerate() {
-        if begins(line) {
-            print_lines(heap, &mut out, &texts[from..to], &lines[from..to])?;
-            from = to;
-        }
+    for part in lines.chunk_by(|_, next| !begins(next)) {
+        print_lines(heap, &mut out, &mut texts, part)?;
     }
-    print_lines(heap, &mut out, &texts[from..], &lines[from..])?;
     Ok(out)
 }
 

@@ -1,4 +1,4 @@
-use Rattle.std.proofs.Common.{◌≡◌, ◌-◌, ◌%◌, get_or, drop, length, take, vec_items, inl, inr, arith, rules, length-drop}
+use Rattle.std.proofs.Common.{◌≡◌, get_or, vec_items, inl, inr, arith, rules, length-drop}
 use Rattle.std.proofs.lemmas.List.{take_rest}
 use Rattle.std.specs.Char.{digit_value}
 use Rattle.script.specs.Fields.{unhexed}

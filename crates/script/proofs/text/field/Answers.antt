@@ -1,7 +1,5 @@
-use Rattle.std.proofs.Common.{◌≡◌, ◌+◌, ◌-◌, ◌==◌, drop, take, position, Some, None, ap, sym, ◌∙◌, rules}
-use native.Mathlib.Nat.{sub-zero}
+use Rattle.std.proofs.Common.{◌≡◌, ◌==◌, position, Some, None, rules}
 use Rattle.std.proofs.lemmas.List.{take_rest}
-use Rattle.script.specs.Fields.{field, number, then}
 use Rattle.script.proofs.Texts.{field_ended, field_unended}
 use Rattle.script.proofs.text.field.Goals as goal
 
