@@ -17,6 +17,7 @@ pub struct OpenMessage {
     pub name: u16,
     pub source: u16,
     pub destination: u16,
+    // a plain byte: a placing takes any, and refuses what is no kind
     pub kind: u8,
     pub width: u32,
 }

@@ -1,6 +1,8 @@
 // The smallest phase or delay at which a job meets none of those held.
 //
-// From a value at which the job meets a held one, the search goes on at the first value that is clear of that one.
+// From a value at which the job meets a held one, the search goes on at the first value that is clear of that one. The searches
+// for a phase and for a delay stand each by itself: a closure that tries a value would have to hand back its job, its way and
+// its meeting, and both answers of the lateness that only a delay has.
 ghost use Rattle.std.specs.Prelude.{◌≡◌, ◌+◌, ◌-◌, map};
 ghost use Rattle.holds.specs.Search.{first_from};
 ghost use Rattle.jobs.specs.Boards.{held_on, job_of, setting_of};

@@ -69,7 +69,7 @@ impl<'a> Fabric for Listed<'a> {
     }
 }
 
-// The record of the route from one node to another.
+// The record of the route from one node to another, by the places of the records, of which one is what its clause names.
 fn find(routes: &Section<'_, Route>, from: usize, to: usize) -> Option<Route>
     ensures answer { option_map route_links result ≡ seek routes.now.bytes.now from to 0 (route_count routes.now.bytes.now) }
     ensures stands { IfSome result (Stands routes.now.bytes.now) }

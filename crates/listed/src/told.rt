@@ -3,13 +3,7 @@ ghost use Rattle.listed.specs.Told.{section_told, set_told};
 ghost use Rattle.std.specs.Prelude.{◌≡◌};
 
 use super::{SectionFault, SetFault};
-use refusals::refusal::{Refusal, Told};
-
-const HEAD: u8 = 0;
-
-const LINKS: u8 = 1;
-
-const ROUTES: u8 = 2;
+use refusals::refusal::{Part, Refusal, Told};
 
 // The section stands beside the fault, so this is no `From`.
 impl SectionFault {
@@ -28,13 +22,13 @@ impl From<SetFault> for Told {
 
     fn from(fault: SetFault) -> Told {
         match fault {
-            SetFault::Head(fault) => Told::new(HEAD, 0, Refusal::plain(fault.number())),
-            SetFault::Links(fault) => fault.told(LINKS),
-            SetFault::Link(place) => Told::new(LINKS, place, Refusal::plain(5)),
-            SetFault::Routes(fault) => fault.told(ROUTES),
-            SetFault::Route(place) => Told::new(ROUTES, place, Refusal::plain(6)),
-            SetFault::Chain(place) => Told::new(ROUTES, place, Refusal::plain(7)),
-            SetFault::Order(place) => Told::new(ROUTES, place, Refusal::plain(8)),
+            SetFault::Head(fault) => Told::new(Part::Head as u8, 0, Refusal::plain(fault.number())),
+            SetFault::Links(fault) => fault.told(Part::Links as u8),
+            SetFault::Link(place) => Told::new(Part::Links as u8, place, Refusal::plain(5)),
+            SetFault::Routes(fault) => fault.told(Part::Routes as u8),
+            SetFault::Route(place) => Told::new(Part::Routes as u8, place, Refusal::plain(6)),
+            SetFault::Chain(place) => Told::new(Part::Routes as u8, place, Refusal::plain(7)),
+            SetFault::Order(place) => Told::new(Part::Routes as u8, place, Refusal::plain(8)),
         }
     }
 }

@@ -4,13 +4,7 @@ ghost use Rattle.plan.specs.declared.fault.LoadFault.TheVariants.{Layout, Messag
 ghost use Rattle.std.specs.Prelude.{◌≡◌};
 
 use jobs::fault::{MessageFault, TaskFault};
-use refusals::refusal::{Refusal, Told};
-
-const TASKS: u8 = 3;
-
-const MESSAGES: u8 = 4;
-
-const END: u8 = 5;
+use refusals::refusal::{Part, Refusal, Told};
 
 // What is wrong with the layout of a job part.
 #[derive(Clone, Copy, PartialEq, Eq, Debug)]
@@ -64,11 +58,23 @@ impl From<LayoutFault> for Told {
 
     fn from(fault: LayoutFault) -> Told {
         match fault {
-            LayoutFault::TasksShort(whole) => Told::new(TASKS, whole, Refusal::plain(1)),
-            LayoutFault::MessagesShort(whole) => Told::new(MESSAGES, whole, Refusal::plain(1)),
-            LayoutFault::Extra => Told::new(END, 0, Refusal::plain(25)),
-            LayoutFault::NoTask(place) => Told::new(TASKS, place, Refusal::plain(24)),
-            LayoutFault::NoMessage(place) => Told::new(MESSAGES, place, Refusal::plain(24)),
+            LayoutFault::TasksShort(whole) => Told::new(
+                Part::Tasks as u8,
+                whole,
+                Refusal::plain(1),
+            ),
+            LayoutFault::MessagesShort(whole) => Told::new(
+                Part::Messages as u8,
+                whole,
+                Refusal::plain(1),
+            ),
+            LayoutFault::Extra => Told::new(Part::End as u8, 0, Refusal::plain(25)),
+            LayoutFault::NoTask(place) => Told::new(Part::Tasks as u8, place, Refusal::plain(24)),
+            LayoutFault::NoMessage(place) => Told::new(
+                Part::Messages as u8,
+                place,
+                Refusal::plain(24),
+            ),
         }
     }
 }
@@ -79,8 +85,12 @@ impl From<LoadFault> for Told {
     fn from(fault: LoadFault) -> Told {
         match fault {
             LoadFault::Layout(fault) => fault.into(),
-            LoadFault::Task(place, fault) => Told::new(TASKS, place, fault.into()),
-            LoadFault::Message(place, fault) => Told::new(MESSAGES, place, fault.into()),
+            LoadFault::Task(place, fault) => Told::new(Part::Tasks as u8, place, fault.into()),
+            LoadFault::Message(place, fault) => Told::new(
+                Part::Messages as u8,
+                place,
+                fault.into(),
+            ),
         }
     }
 }

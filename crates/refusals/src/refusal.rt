@@ -28,6 +28,17 @@ pub struct Refusal {
     pub detail: Detail,
 }
 
+// The parts of a plan file, in the order of their section numbers.
+#[derive(Clone, Copy, PartialEq, Eq, Debug)]
+pub enum Part {
+    Head,
+    Links,
+    Routes,
+    Tasks,
+    Messages,
+    End,
+}
+
 // A refusal with the section and the record of a file that it names. The section is a plain byte, so that any may be told.
 #[derive(Clone, Copy, PartialEq, Eq, Debug)]
 pub struct Told {

@@ -16,7 +16,7 @@ pub mod calls;
 
 use calls::{Answer, Call};
 
-// The method of the plan that a call asks for.
+// The method of the plan that a call asks for. A list of calls is read and kept, so a call is a value and no closure.
 fn dispatch<F: Fabric>(plan: &mut Plan<'_, F>, call: &Call<'_>) -> Answer
     ensures answer { result ≡ (ask (setting F.Fabric.meaning plan.old) (jobs plan.old) (asked call.now)).0 }
     ensures after { jobs plan.new ≡ (ask (setting F.Fabric.meaning plan.old) (jobs plan.old) (asked call.now)).1 }

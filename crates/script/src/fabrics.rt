@@ -6,10 +6,8 @@ use crate::reply::Reply;
 use fabric::Fabric;
 use fabric::mesh::Mesh;
 use listed::Listed;
+use records::head::HeadFault;
 use refusals::refusal::Refusal;
-
-// The number of a mesh outside its limits.
-const HEAD: u8 = 3;
 
 fn ready<F: Fabric>(fabric: &F) -> Reply
     ensures { result ≡ ready (F.Fabric.meaning fabric.now) }
@@ -25,7 +23,7 @@ pub fn mesh_reply(x: u8, y: u8, delay: u8) -> Reply
 {
     match Mesh::new(x, y, delay) {
         Ok(mesh) => ready(&mesh),
-        Err(_) => Reply::Refused(Refusal::plain(HEAD)),
+        Err(_) => Reply::Refused(Refusal::plain(HeadFault::Limits.number())),
     }
 }
 

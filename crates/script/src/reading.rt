@@ -14,7 +14,8 @@ use crate::text::after;
 use replay::calls::Call;
 use std::alloc::{AllocError, Global};
 
-// A call whose line is words and numbers.
+// A call whose line is words and numbers. A table of fronts and readers would hold function pointers, whose contracts a caller
+// would have to ask for again.
 fn read_call(text: &[u8]) -> Option<Call<'static>>
     ensures { asked_of result ≡ call_line text.now }
 {

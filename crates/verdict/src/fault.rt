@@ -5,7 +5,7 @@ ghost use Rattle.std.specs.Prelude.{◌≡◌};
 
 use listed::SetFault;
 use plan::fault::LoadFault;
-use refusals::refusal::{Refusal, Told};
+use refusals::refusal::{Part, Refusal, Told};
 
 #[derive(Clone, Copy)]
 pub(crate) enum FileFault {
@@ -38,7 +38,7 @@ impl From<FileFault> for Told {
 
     fn from(fault: FileFault) -> Told {
         match fault {
-            FileFault::Extra => Told::new(5, 0, Refusal::plain(25)),
+            FileFault::Extra => Told::new(Part::End as u8, 0, Refusal::plain(25)),
             FileFault::Fabric(fault) => fault.into(),
             FileFault::Load(fault) => fault.into(),
         }
