@@ -54,27 +54,15 @@ fn read_text(heap: Global, text: &[u8]) -> Result<Line, AllocError>
     ensures { IfOk result (λ l. said l ≡ text_line text.now) }
 {
     if let Some(rest) = after(b"fabric mesh ", text) {
-        return match mesh(rest) {
-            Some((x, y, delay)) => Ok(Line::Mesh { x, y, delay }),
-            None => Ok(Line::Unread),
-        };
+        return Ok(mesh(rest).map_or(Line::Unread, |(x, y, delay)| Line::Mesh { x, y, delay }));
     }
     if let Some(rest) = after(b"fabric listed ", text) {
-        return match unhexed(heap, rest)? {
-            Some(file) => Ok(Line::Listed(file)),
-            None => Ok(Line::Unread),
-        };
+        return Ok(unhexed(heap, rest)?.map_or(Line::Unread, Line::Listed));
     }
     if let Some(rest) = after(b"load ", text) {
-        return match unhexed(heap, rest)? {
-            Some(part) => Ok(Line::Load(part)),
-            None => Ok(Line::Unread),
-        };
+        return Ok(unhexed(heap, rest)?.map_or(Line::Unread, Line::Load));
     }
-    match read_call(text) {
-        Some(call) => Ok(Line::Plain(call)),
-        None => Ok(Line::Unread),
-    }
+    Ok(read_call(text).map_or(Line::Unread, Line::Plain))
 }
 
 // What a line says.
