@@ -5,17 +5,13 @@ use Rattle.records.specs.declared.record.Task.{Task}
 use Rattle.records.specs.declared.record.Message.{Message}
 use Rattle.jobs.specs.declared.board.Board.{Board}
 use Rattle.jobs.specs.declared.board.Ends.{Ends}
-use Rattle.jobs.specs.Jobs.{Jobs, Setting, over, task_named}
+use Rattle.jobs.specs.Jobs.{Setting, over, task_named}
 use Rattle.jobs.specs.Meetings.{HeldJob}
 use Rattle.jobs.specs.Takes.{Take}
 
 -- the setting over a board's fabric, by what fabrics mean
 abbrev pub setting_of : {F : Type 0} → (F → Network) → Board F → Setting
 setting_of meaning b = over meaning b.fabric.now
-
--- the held jobs on a board
-abbrev pub held_on : {F : Type 0} → Board F → Jobs
-held_on b = record { tasks = b.tasks.now; messages = b.messages.now }
 
 -- a source and a destination, where there are both
 abbrev pub both_ends : Option Task → Option Task → Option Ends

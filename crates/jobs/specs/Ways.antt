@@ -1,10 +1,12 @@
 -- What stays and ways of the code stand for. Assumes nothing.
-use Rattle.std.specs.Prelude.{◌≡◌, ℕ, ◌+◌, ◌*◌, List, [], ℤ, Some, None, Option}
+use Rattle.std.specs.Prelude.{◌≡◌, ℕ, ◌+◌, ◌*◌, List, [], map, ℤ, Some, None, Option}
 use Rattle.std.specs.Option.{option_map}
 use Rattle.fabric.specs.Network.{Network, route_length, route_place}
 use Rattle.records.specs.declared.record.Task.{Task}
 use Rattle.records.specs.declared.record.Message.{Message}
 use Rattle.jobs.specs.declared.stay.Stay.{Stay}
+use Rattle.jobs.specs.declared.stay.Stays.{Stays}
+use Rattle.jobs.specs.declared.stay.Stays.TheVariants.{Core, Links}
 use Rattle.jobs.specs.declared.way.Way.{Way}
 use Rattle.holds.specs.Held.{span, spanned}
 use Rattle.jobs.specs.Jobs.{Setting}
@@ -14,6 +16,11 @@ use Rattle.jobs.specs.Takes.{Take, leaves, link, on_route, task_hold}
 -- what a stay takes
 abbrev pub stay_take : Stay → Take
 stay_take s = record { place = s.place; hold = option_map span s.hold }
+
+-- what the stays of a job take
+abbrev pub taken : Stays → List Take
+taken (Core stay) = map stay_take stay
+taken (Links stays) = map stay_take stays.items
 
 -- a stay is that of packets on the link at a place of their way
 pub record StaysOn (net : Network) (w : Way) (i : ℕ) (s : Stay) : Type 0 where

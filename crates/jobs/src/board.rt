@@ -1,4 +1,4 @@
-// What an offer or a question is about: the fabric and the held jobs.
+// What packets go by: the fabric, and the held tasks that messages name.
 ghost use Rattle.jobs.specs.Boards.{ends_in};
 ghost use Rattle.std.specs.Prelude.{◌≡◌};
 
@@ -9,7 +9,6 @@ use records::record::{Message, Task};
 pub struct Board<'a, F> {
     pub fabric: &'a F,
     pub tasks: &'a [Task],
-    pub messages: &'a [Message],
 }
 
 // The two tasks of a message.

@@ -12,12 +12,13 @@ use crate::place::Place;
 use crate::stay::Stay;
 use fabric::Fabric;
 use holds::run_at;
+use records::record::{Message, Task};
 
 // The run of a stay that has a place at an instant.
 fn run_there(place: Place, instant: u64, stay: &Stay) -> Option<u64>
     ensures { result ≡ run_on place instant (stay_take stay.now) }
 {
-    if !stay.place.is(place) {
+    if stay.place != place {
         return None;
     }
     run_at(stay.hold?, instant)
@@ -33,43 +34,33 @@ fn run_among(place: Place, instant: u64, stays: &[Stay]) -> Option<u64>
 }
 
 // The name of a held job, and its run that has a place at an instant.
-fn held_run<F: Fabric, J: Job>(
-    board: &Board<'_, F>,
-    job: &J,
-    place: Place,
-    instant: u64,
-) -> Option<(u16, u64)>
-    ensures { result ≡ with_name (J.Named.label job.now) (first_run place instant (J.Job.takes (setting_of F.Fabric.meaning board.now) board.now.tasks.now job.now)) }
+fn held_run<B, J: Job<B>>(board: &B, job: &J, place: Place, instant: u64) -> Option<(u16, u64)>
+    ensures { result ≡ with_name (J.Named.label job.now) (first_run place instant (J.Job.takes board.now job.now)) }
 {
     let run = run_among(place, instant, job.stays(board).as_slice())?;
     Some((job.name(), run))
 }
 
 // The first of the held jobs that has a place at an instant, by its name, and its run there.
-fn holder<F: Fabric, J: Job>(
-    board: &Board<'_, F>,
-    held: &[J],
-    place: Place,
-    instant: u64,
-) -> Option<(u16, u64)>
-    ensures { result ≡ holder_among place instant (map (job_of J.Named.label (J.Job.takes (setting_of F.Fabric.meaning board.now) board.now.tasks.now)) held.now) }
+fn holder<B, J: Job<B>>(board: &B, held: &[J], place: Place, instant: u64) -> Option<(u16, u64)>
+    ensures { result ≡ holder_among place instant (map (job_of J.Named.label (J.Job.takes board.now)) held.now) }
 {
     held.iter()
         .find_map(|job| held_run(board, job, place, instant))
 }
 
-impl<'a, F: Fabric> Board<'a, F> {
-    // The held task that has a core at an instant, by its name, and its run there.
-    pub fn core_holder(&self, number: u16, instant: u64) -> Option<(u16, u64)>
-        ensures { result ≡ holder_among (core number) instant (map held_task self.now.tasks.now) }
-    {
-        holder(self, self.tasks, Place::Core(number), instant)
-    }
+// The held task that has a core at an instant, by its name, and its run there.
+pub fn core_holder(held: &[Task], number: u16, instant: u64) -> Option<(u16, u64)>
+    ensures { result ≡ holder_among (core number) instant (map held_task held.now) }
+{
+    holder(&(), held, Place::Core(number), instant)
+}
 
+impl<'a, F: Fabric> Board<'a, F> {
     // The held message that has a link at an instant, by its name, and its packet there.
-    pub fn link_holder(&self, number: u16, instant: u64) -> Option<(u16, u64)>
-        ensures { result ≡ holder_among (link number) instant (map (held_message (setting_of F.Fabric.meaning self.now) self.now.tasks.now) self.now.messages.now) }
+    pub fn link_holder(&self, held: &[Message], number: u16, instant: u64) -> Option<(u16, u64)>
+        ensures { result ≡ holder_among (link number) instant (map (held_message (setting_of F.Fabric.meaning self.now) self.now.tasks.now) held.now) }
     {
-        holder(self, self.messages, Place::Link(number), instant)
+        holder(self, held, Place::Link(number), instant)
     }
 }

@@ -1,43 +1,41 @@
 // What a held job is: it has a name, and it takes places.
 ghost use Rattle.jobs.specs.Boards.{setting_of};
-ghost use Rattle.jobs.specs.Jobs.{Setting};
 ghost use Rattle.jobs.specs.Takes.{Take, message_takes, task_takes};
-ghost use Rattle.jobs.specs.Ways.{stay_take};
-ghost use Rattle.records.specs.declared.record.Task.{Task as TaskOf};
-ghost use Rattle.std.specs.Prelude.{◌≡◌, List, map};
+ghost use Rattle.jobs.specs.Ways.{taken};
+ghost use Rattle.std.specs.Prelude.{◌≡◌, List};
 
 use crate::board::Board;
 use crate::stay::Stays;
 use crate::task::stay_of;
+use arrayvec::ArrayVec;
 use fabric::Fabric;
 use records::named::Named;
 use records::record::{Message, Task};
 
-pub(crate) trait Job: Named + Copy {
-    // what the job takes, over a setting and beside the held tasks
-    ghost takes: { Setting → List TaskOf → Self → List Take };
+// A kind of held job. What packets take hangs on a board; what a task takes, on nothing.
+pub(crate) trait Job<B>: Named + Copy {
+    // what a job takes
+    ghost takes: { B → Self → List Take };
 
-    fn stays<F: Fabric>(&self, board: &Board<'_, F>) -> Stays
-        ensures { map stay_take result.items ≡ takes (setting_of F.Fabric.meaning board.now) board.now.tasks.now self.now };
+    fn stays(&self, board: &B) -> Stays
+        ensures { taken result ≡ takes board.now self.now };
 }
 
-impl Job for Task {
-    ghost takes = { λ _ _ t. task_takes t };
+impl Job<()> for Task {
+    ghost takes = { λ _ t. task_takes t };
 
-    fn stays<F: Fabric>(&self, _board: &Board<'_, F>) -> Stays {
-        let mut stays = Stays::new();
-        stays.push(stay_of(self));
-        stays
+    fn stays(&self, _board: &()) -> Stays {
+        Stays::Core([stay_of(self)])
     }
 }
 
-impl Job for Message {
-    ghost takes = { message_takes };
+impl<'a, F: Fabric> Job<Board<'a, F>> for Message {
+    ghost takes = { λ b m. message_takes (setting_of F.Fabric.meaning b) b.tasks.now m };
 
-    fn stays<F: Fabric>(&self, board: &Board<'_, F>) -> Stays {
+    fn stays(&self, board: &Board<'a, F>) -> Stays {
         match board.way_of(self) {
-            Some(way) => way.stays(board.fabric),
-            None => Stays::new(),
+            Some(way) => Stays::Links(way.stays(board.fabric)),
+            None => Stays::Links(ArrayVec::new()),
         }
     }
 }

@@ -6,14 +6,14 @@ ghost use Rattle.std.specs.Prelude.{◌≡◌};
 
 pub mod board;
 pub mod fault;
-mod holder;
+pub mod holder;
 mod job;
 mod meeting;
 pub mod message;
 pub mod open;
 mod packets;
 pub mod place;
-mod placing;
+pub mod placing;
 mod stay;
 pub mod task;
 pub mod way;

@@ -24,7 +24,7 @@ fn shared_instant(one: Option<Hold>, other: Option<Hold>) -> Option<u64>
 pub(crate) fn meeting_at(name: u16, own: &Stay, held: &Stay) -> Option<Meeting>
     ensures { result ≡ met name (stay_take own.now) (stay_take held.now) }
 {
-    if !own.place.is(held.place) {
+    if own.place != held.place {
         return None;
     }
     let instant = shared_instant(own.hold, held.hold)?;
@@ -40,9 +40,8 @@ fn earlier(one: Option<Meeting>, other: Option<Meeting>) -> Option<Meeting>
     ensures { result ≡ sooner one other }
 {
     match (one, other) {
-        (Some(a), Some(b)) if b < a => Some(b),
-        (Some(a), _) => Some(a),
-        (None, _) => other,
+        (Some(a), Some(b)) => Some(a.min(b)),
+        _ => one.or(other),
     }
 }
 
@@ -64,24 +63,20 @@ fn nearest(best: Option<Meeting>, own: &[Stay], name: u16, held: &[Stay]) -> Opt
 }
 
 // The earlier of `best` and the meetings of an offered job's stays with those of one held job.
-fn nearest_job<F: Fabric, J: Job>(
-    board: &Board<'_, F>,
+fn nearest_job<B, J: Job<B>>(
+    board: &B,
     best: Option<Meeting>,
     own: &[Stay],
     job: &J,
 ) -> Option<Meeting>
-    ensures { result ≡ earliest_from best (meetings (J.Named.label job.now) (map stay_take own.now) (J.Job.takes (setting_of F.Fabric.meaning board.now) board.now.tasks.now job.now)) }
+    ensures { result ≡ earliest_from best (meetings (J.Named.label job.now) (map stay_take own.now) (J.Job.takes board.now job.now)) }
 {
     nearest(best, own, job.name(), job.stays(board).as_slice())
 }
 
 // The first meeting of an offered job's stays with those of the held jobs.
-pub(crate) fn first_among<F: Fabric, J: Job>(
-    board: &Board<'_, F>,
-    held: &[J],
-    own: &[Stay],
-) -> Option<Meeting>
-    ensures { result ≡ first_met (map stay_take own.now) (map (job_of J.Named.label (J.Job.takes (setting_of F.Fabric.meaning board.now) board.now.tasks.now)) held.now) }
+pub(crate) fn first_among<B, J: Job<B>>(board: &B, held: &[J], own: &[Stay]) -> Option<Meeting>
+    ensures { result ≡ first_met (map stay_take own.now) (map (job_of J.Named.label (J.Job.takes board.now)) held.now) }
 {
     held.iter()
         .fold(None, |best, job| nearest_job(board, best, own, job))

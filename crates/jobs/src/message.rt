@@ -70,11 +70,11 @@ impl<'a, F: Fabric> Board<'a, F> {
     }
 
     // The first meeting of packets on their way with those of the held messages.
-    pub fn first_packet_meeting(&self, own: &Way) -> Option<Meeting>
-        ensures { result ≡ first_met (way_takes (setting_of F.Fabric.meaning self.now) own.now) (map (held_message (setting_of F.Fabric.meaning self.now) self.now.tasks.now) self.now.messages.now) }
+    pub fn first_packet_meeting(&self, held: &[Message], own: &Way) -> Option<Meeting>
+        ensures { result ≡ first_met (way_takes (setting_of F.Fabric.meaning self.now) own.now) (map (held_message (setting_of F.Fabric.meaning self.now) self.now.tasks.now) held.now) }
     {
         let stays = own.stays(self.fabric);
-        first_among(self, self.messages, stays.as_slice())
+        first_among(self, held, stays.as_slice())
     }
 
     // The least slack of a message between two of the tasks.

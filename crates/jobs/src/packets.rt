@@ -6,8 +6,9 @@ ghost use Rattle.std.specs.Prelude.{◌≡◌, ◌≤◌, map, None, MatchOption
 
 use crate::board::Ends;
 use crate::place::Place;
-use crate::stay::{Stay, Stays};
+use crate::stay::Stay;
 use crate::way::Way;
+use arrayvec::ArrayVec;
 use fabric::Fabric;
 use holds::Hold;
 use records::record::Message;
@@ -49,10 +50,11 @@ impl Way {
     }
 
     // The stays of packets on their way, one on each link.
-    pub(crate) fn stays<F: Fabric>(&self, fabric: &F) -> Stays
+    pub(crate) fn stays<F: Fabric>(&self, fabric: &F) -> ArrayVec<Stay, 64>
         ensures { map stay_take result.items ≡ way_takes (over F.Fabric.meaning fabric.now) self.now }
     {
-        let mut stays = Stays::new();
+        let mut stays = ArrayVec::new();
+        // by places, from each of which the start of its stay is reckoned
         for place in 0..F::reach() {
             if let Some(stay) = self.stay_on(fabric, place) {
                 stays.push(stay);

@@ -1,5 +1,5 @@
 // The places that jobs take.
-ghost use Rattle.jobs.specs.Takes.{number, same_place};
+ghost use Rattle.jobs.specs.Takes.{number};
 ghost use Rattle.std.specs.Prelude.{◌≡◌};
 
 // A core, which is taken by tasks, or a link, which is taken by packets, by its number.
@@ -16,12 +16,5 @@ impl Place {
         match self {
             Place::Core(n) | Place::Link(n) => n,
         }
-    }
-
-    // Whether the two are one place.
-    pub(crate) fn is(self, other: Place) -> bool
-        ensures { result ≡ same_place self other }
-    {
-        self == other
     }
 }

@@ -5,7 +5,7 @@
 // its meeting, and both answers of the lateness that only a delay has.
 ghost use Rattle.std.specs.Prelude.{◌≡◌, ◌+◌, ◌-◌, map};
 ghost use Rattle.holds.specs.Search.{first_from};
-ghost use Rattle.jobs.specs.Boards.{held_on, job_of, setting_of};
+ghost use Rattle.jobs.specs.Boards.{job_of, setting_of};
 ghost use Rattle.jobs.specs.Meetings.{first_met, held_task};
 ghost use Rattle.jobs.specs.Open.{message_at, task_at};
 ghost use Rattle.jobs.specs.Placings.{clear, on_way};
@@ -15,21 +15,23 @@ ghost use Rattle.jobs.specs.Ways.{stay_take};
 
 use crate::board::{Board, Ends};
 use crate::job::Job;
+use crate::meeting::first_among;
 use crate::message::late_by;
 use crate::open::{OpenMessage, OpenTask};
 use crate::stay::Stay;
-use crate::task::stay_of;
+use crate::task::{first_task_meeting, stay_of};
 use crate::way::Way;
 use fabric::Fabric;
 use holds::least_wait;
 use records::named::pick;
+use records::record::{Message, Task};
 use refusals::refusal::Meeting;
 
 // By how many instants a stay must be put off to be clear of a held one, none where it never is.
 fn stay_wait(own: &Stay, held: &Stay) -> Option<u32>
     ensures { StillMeets (stay_take own.now) (stay_take held.now) result }
 {
-    if !own.place.is(held.place) {
+    if own.place != held.place {
         return Some(0);
     }
     match (own.hold, held.hold) {
@@ -49,13 +51,8 @@ fn stay_at(stays: &[Stay], number: u16) -> Option<Stay>
 }
 
 // By how many instants a job must be put off to be clear of the held one that it meets, none where it never is.
-fn wait_past<F: Fabric, J: Job>(
-    board: &Board<'_, F>,
-    held: &[J],
-    own: &[Stay],
-    meeting: &Meeting,
-) -> Option<u32>
-    ensures { StillMet (map stay_take own.now) (map (job_of J.Named.label (J.Job.takes (setting_of F.Fabric.meaning board.now) board.now.tasks.now)) held.now) result }
+fn wait_past<B, J: Job<B>>(board: &B, held: &[J], own: &[Stay], meeting: &Meeting) -> Option<u32>
+    ensures { StillMet (map stay_take own.now) (map (job_of J.Named.label (J.Job.takes board.now)) held.now) result }
 {
     let Some(job) = pick(held, meeting.held) else {
         return Some(0);
@@ -69,27 +66,27 @@ fn wait_past<F: Fabric, J: Job>(
     stay_wait(&one, &other)
 }
 
-impl<'a, F: Fabric> Board<'a, F> {
-    // The smallest phase at which the task meets none of those held.
-    pub fn first_phase(&self, t: &OpenTask) -> Option<u32>
-        ensures { result ≡ first_from (λ v. clear (first_met (task_takes (task_at t.now v)) (map held_task self.now.tasks.now))) (t.now.period + 1 - t.now.width) 0 }
-    {
-        let last = t.period.checked_sub(t.width)?;
-        let mut phase: u32 = 0;
-        while phase <= last {
-            let task = t.at(phase);
-            let Some(meeting) = self.first_task_meeting(&task) else {
-                return Some(phase);
-            };
-            let wait = wait_past(self, self.tasks, &[stay_of(&task)], &meeting)?;
-            phase = phase.checked_add(wait.max(1))?;
-        }
-        None
+// The smallest phase at which the task meets none of those held.
+pub fn first_phase(held: &[Task], t: &OpenTask) -> Option<u32>
+    ensures { result ≡ first_from (λ v. clear (first_met (task_takes (task_at t.now v)) (map held_task held.now))) (t.now.period + 1 - t.now.width) 0 }
+{
+    let last = t.period.checked_sub(t.width)?;
+    let mut phase: u32 = 0;
+    while phase <= last {
+        let task = t.at(phase);
+        let Some(meeting) = first_task_meeting(held, &task) else {
+            return Some(phase);
+        };
+        let wait = wait_past(&(), held, &[stay_of(&task)], &meeting)?;
+        phase = phase.checked_add(wait.max(1))?;
     }
+    None
+}
 
+impl<'a, F: Fabric> Board<'a, F> {
     // The smallest delay at which the message between two tasks is neither late nor meets a held one.
-    pub fn first_delay(&self, ends: &Ends, m: &OpenMessage) -> Option<u32>
-        ensures { result ≡ first_from (λ v. clear (on_way (setting_of F.Fabric.meaning self.now) (held_on self.now) (message_at m.now v) ends.now.source ends.now.destination ((F.Fabric.meaning self.now.fabric.now).route ends.now.source.core ends.now.destination.core))) ends.now.source.period 0 }
+    pub fn first_delay(&self, held: &[Message], ends: &Ends, m: &OpenMessage) -> Option<u32>
+        ensures { result ≡ first_from (λ v. clear (on_way (setting_of F.Fabric.meaning self.now) (record { tasks = self.now.tasks.now; messages = held.now }) (message_at m.now v) ends.now.source ends.now.destination ((F.Fabric.meaning self.now.fabric.now).route ends.now.source.core ends.now.destination.core))) ends.now.source.period 0 }
     {
         let mut delay: u32 = 0;
         while delay < ends.source.period {
@@ -98,11 +95,12 @@ impl<'a, F: Fabric> Board<'a, F> {
             if late_by(&way, &ends.destination, &message).is_some() {
                 return None;
             }
-            let Some(meeting) = self.first_packet_meeting(&way) else {
+            let stays = way.stays(self.fabric);
+            let own = stays.as_slice();
+            let Some(meeting) = first_among(self, held, own) else {
                 return Some(delay);
             };
-            let stays = way.stays(self.fabric);
-            let wait = wait_past(self, self.messages, stays.as_slice(), &meeting)?;
+            let wait = wait_past(self, held, own, &meeting)?;
             delay = delay.checked_add(wait.max(1))?;
         }
         None

@@ -7,11 +7,9 @@ ghost use Rattle.jobs.specs.Ways.{stay_take};
 ghost use Rattle.std.specs.Option.{option_map};
 ghost use Rattle.std.specs.Prelude.{◌≡◌, map};
 
-use crate::board::Board;
 use crate::meeting::first_among;
 use crate::place::Place;
 use crate::stay::Stay;
-use fabric::Fabric;
 use holds::Hold;
 use records::record::Task;
 use refusals::refusal::Meeting;
@@ -43,11 +41,9 @@ pub(crate) fn stay_of(t: &Task) -> Stay
     }
 }
 
-impl<'a, F: Fabric> Board<'a, F> {
-    // The first meeting of the task with those held.
-    pub fn first_task_meeting(&self, t: &Task) -> Option<Meeting>
-        ensures { result ≡ first_met (task_takes t.now) (map held_task self.now.tasks.now) }
-    {
-        first_among(self, self.tasks, &[stay_of(t)])
-    }
+// The first meeting of the task with those held.
+pub fn first_task_meeting(held: &[Task], t: &Task) -> Option<Meeting>
+    ensures { result ≡ first_met (task_takes t.now) (map held_task held.now) }
+{
+    first_among(&(), held, &[stay_of(t)])
 }

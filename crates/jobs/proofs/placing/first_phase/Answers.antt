@@ -10,7 +10,7 @@ use Rattle.jobs.specs.Takes.{task_takes}
 use Rattle.jobs.specs.Waits.{StillMet}
 use Rattle.jobs.proofs.Searches.{FailsFrom, leap, leap_all, search_found, search_none}
 use Rattle.jobs.proofs.Waits.{phase_fails, still_as}
-use Rattle.jobs.proofs.board.Board.first_phase.Goals as goal
+use Rattle.jobs.proofs.placing.first_phase.Goals as goal
 
 -- whether no held task is met at a phase
 abbrev free : OpenTask → List Task → ℕ → Bool
@@ -31,31 +31,31 @@ fails t held v u wait e still =
     phase_fails t (map held_task held) v wait (subst (λ (x : Task). StillMet (task_takes x) (map held_task held) wait) e still)
 
 pub returns-in_err-last : goal.returns-in_err-last
-returns-in_err-last g c =
+returns-in_err-last c =
     c.from_residual.ensures
-    ∙ search_none (free c.args.t.now c.args.self.now.tasks.now) (count c.args.t.now) (λ m l. absurd (c.in_err-last.ensures (omega arith)))
+    ∙ search_none (free c.args.t.now c.args.held.now) (count c.args.t.now) (λ m l. absurd (c.in_err-last.ensures (omega arith)))
 
 pub returns-in_default : goal.returns-in_default
-returns-in_default g c =
+returns-in_default c =
     let t = c.args.t.now in
-    let held = c.args.self.now.tasks.now in
+    let held = c.args.held.now in
     let v = c.loop-phase.phase in
     search_found (free t held) (count t) v (omega (arith, c.in_ok-last.ensures)) c.loop-phase.invariant
     (met_at t held v c.at-task.result None c.at-task.ensures c.in_default.ensures)
 
 pub returns-in_err-wait : goal.returns-in_err-wait
-returns-in_err-wait g c =
+returns-in_err-wait c =
     let t = c.args.t.now in
-    let held = c.args.self.now.tasks.now in
+    let held = c.args.held.now in
     let v = c.loop-phase.phase in
     c.from_residual-in_err-wait.ensures
     ∙ search_none (free t held) (count t)
     (λ m l. leap_all (free t held) v c.loop-phase.invariant (fails t held v c.at-task.result None c.at-task.ensures (still_as (map held_task held) None (ap (λ x. x ∷ []) c.stay_of.ensures) c.in_err-wait.ensures)) m (omega arith))
 
 pub returns-in_err-phase : goal.returns-in_err-phase
-returns-in_err-phase g c =
+returns-in_err-phase c =
     let t = c.args.t.now in
-    let held = c.args.self.now.tasks.now in
+    let held = c.args.held.now in
     let v = c.loop-phase.phase in
     let w = c.in_ok-wait.wait in
     let past : 4294967296 ≤ v + c.max.result = ⊎_elim (λ l. absurd (c.in_err-phase.ensures (omega arith))) (λ l. l) (cases_lt (v + c.max.result) 4294967296) in
@@ -65,9 +65,9 @@ returns-in_err-phase g c =
     (fails t held v c.at-task.result (Some w) c.at-task.ensures (still_as (map held_task held) (Some w) (ap (λ x. x ∷ []) c.stay_of.ensures) c.in_ok-wait.ensures)) m (omega (arith, c.max.ensures)) (omega arith))
 
 pub loop-phase-preserved : goal.loop-phase-preserved
-loop-phase-preserved g c =
+loop-phase-preserved c =
     let t = c.args.t.now in
-    let held = c.args.self.now.tasks.now in
+    let held = c.args.held.now in
     let v = c.loop-phase.phase in
     let w = c.in_ok-wait.wait in
     λ m l. leap (free t held) v c.loop-phase.invariant w (met_at t held v c.at-task.result (Some c.in-Some.meeting) c.at-task.ensures c.in-Some.ensures)
@@ -75,6 +75,6 @@ loop-phase-preserved g c =
     (omega (arith, c.max.ensures, c.in_ok-phase.ensures)) (omega arith)
 
 pub returns : goal.returns
-returns g c =
-    search_none (free c.args.t.now c.args.self.now.tasks.now) (count c.args.t.now)
+returns c =
+    search_none (free c.args.t.now c.args.held.now) (count c.args.t.now)
     (λ m l. c.loop-phase.invariant m (omega (arith, c.in_ok-last.ensures)))
