@@ -38,9 +38,7 @@ impl<'f, F: Fabric> Plan<'f, F> {
         ensures fabric { self.new.fabric ≡ self.old.fabric }
         ensures refused { is_ok result ≡ false → self.new ≡ self.old }
     {
-        match self.messages.remove(name) {
-            Some(_) => Ok(()),
-            None => Err(DropFault::Unknown),
-        }
+        self.messages.remove(name).ok_or(DropFault::Unknown)?;
+        Ok(())
     }
 }

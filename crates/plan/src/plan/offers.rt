@@ -1,6 +1,6 @@
 // New plans, and the offers of tasks and messages.
 ghost use Rattle.std.specs.Prelude.{◌≡◌, ℕ, ◌<◌, true, false, List, length, is_ok, Some, None, Option, MatchResult};
-ghost use Rattle.jobs.specs.Boards.{held_on, setting_of};
+ghost use Rattle.jobs.specs.Boards.{setting_of};
 ghost use Rattle.jobs.specs.Jobs.{nothing, with_message, with_task};
 ghost use Rattle.jobs.specs.Numbers.{message_told, task_told};
 ghost use Rattle.jobs.specs.Checks.{message_checks, routed_checks, task_checks};
@@ -18,6 +18,7 @@ use fabric::Fabric;
 use jobs::board::{Board, Ends};
 use jobs::fault::{MessageFault, TaskFault};
 use jobs::message::late_by;
+use jobs::task::first_task_meeting;
 use jobs::way::Way;
 use jobs::{message, task};
 use records::named::find;
@@ -36,15 +37,14 @@ impl<'f, F: Fabric> Plan<'f, F> {
         }
     }
 
-    // What an offer or a question is about.
+    // What packets go by.
     pub(super) fn board(&self) -> Board<'_, F>
         ensures over { setting_of F.Fabric.meaning result ≡ setting F.Fabric.meaning self.now }
-        ensures held { held_on result ≡ jobs self.now }
+        ensures tasks { result.tasks.now ≡ (jobs self.now).tasks }
     {
         Board {
             fabric: self.fabric,
             tasks: self.tasks.held(),
-            messages: self.messages.held(),
         }
     }
 
@@ -74,10 +74,7 @@ impl<'f, F: Fabric> Plan<'f, F> {
         ensures room { is_ok result ≡ true → length (jobs self.now).tasks < 64 }
     {
         self.task_checks(t)?;
-        match self.board().first_task_meeting(t) {
-            Some(meeting) => Err(TaskFault::Meets(meeting)),
-            None => Ok(()),
-        }
+        first_task_meeting(self.tasks.held(), t).map_or(Ok(()), |meeting| Err(TaskFault::Meets(meeting)))
     }
 
     // One task more: there is room, so the insertion is not refused.
@@ -150,10 +147,9 @@ impl<'f, F: Fabric> Plan<'f, F> {
         if let Some(slack) = late_by(&way, &ends.destination, m) {
             return Err(MessageFault::Late(slack));
         }
-        match self.board().first_packet_meeting(&way) {
-            Some(meeting) => Err(MessageFault::Meets(meeting)),
-            None => Ok(()),
-        }
+        self.board()
+            .first_packet_meeting(self.messages.held(), &way)
+            .map_or(Ok(()), |meeting| Err(MessageFault::Meets(meeting)))
     }
 
     // A message between two held tasks, by its checks past the limits.

@@ -9,6 +9,7 @@ use super::Plan;
 use fabric::Fabric;
 use jobs::fault::{MessageFault, PlacingFault, TaskFault};
 use jobs::open::{OpenMessage, OpenTask};
+use jobs::placing::first_phase;
 
 impl<'f, F: Fabric> Plan<'f, F> {
     // The smallest phase that an offer of the task would be taken with.
@@ -17,7 +18,7 @@ impl<'f, F: Fabric> Plan<'f, F> {
         ensures room { is_ok result ≡ true → length (jobs self.now).tasks < 64 }
     {
         self.task_checks(&t.at(0)).map_err(PlacingFault::Offer)?;
-        self.board().first_phase(t).ok_or(PlacingFault::NoFit)
+        first_phase(self.tasks.held(), t).ok_or(PlacingFault::NoFit)
     }
 
     // Holds the task with the smallest phase that an offer would be taken with, and answers that phase.
@@ -40,7 +41,7 @@ impl<'f, F: Fabric> Plan<'f, F> {
     {
         let ends = self.message_checks(&m.at(0)).map_err(PlacingFault::Offer)?;
         self.board()
-            .first_delay(&ends, m)
+            .first_delay(self.messages.held(), &ends, m)
             .ok_or(PlacingFault::NoFit)
     }
 

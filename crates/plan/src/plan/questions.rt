@@ -7,6 +7,7 @@ ghost use Rattle.std.specs.Prelude.{◌≡◌, IfOk};
 use super::Plan;
 use fabric::Fabric;
 use jobs::fault::{DropFault, PlaceFault};
+use jobs::holder::core_holder;
 use records::named::pick;
 
 impl<'f, F: Fabric> Plan<'f, F> {
@@ -27,7 +28,7 @@ impl<'f, F: Fabric> Plan<'f, F> {
         if core as usize >= self.fabric.nodes() {
             return Err(PlaceFault);
         }
-        Ok(self.board().core_holder(core, instant))
+        Ok(core_holder(self.tasks.held(), core, instant))
     }
 
     // Who holds a link at an instant: the message's name and its packet, or none.
@@ -38,6 +39,6 @@ impl<'f, F: Fabric> Plan<'f, F> {
         if link as usize >= self.fabric.link_numbers() {
             return Err(PlaceFault);
         }
-        Ok(self.board().link_holder(link, instant))
+        Ok(self.board().link_holder(self.messages.held(), link, instant))
     }
 }

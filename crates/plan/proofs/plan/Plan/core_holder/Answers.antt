@@ -12,5 +12,5 @@ returns-clause-holder g c =
     let place = core c.args.core in
     let n = c.args.instant in
     let held = map held_task (jobs c.args.self.now).tasks in
-    let told : c.core_holder.result ≡ holder_among place n held = c.core_holder.ensures ∙ ap (λ js. holder_among place n (map held_task js.tasks)) c.board.ensures.held in
+    let told : c.core_holder.result ≡ holder_among place n held = c.core_holder.ensures ∙ ap (λ ts. holder_among place n (map held_task ts)) c.held.ensures in
     subst (λ (o : Option (ℕ × ℕ)). HolderIs held place n o) (sym told) (holder_is place n held (tasks_fit (jobs c.args.self.now).tasks))

@@ -17,6 +17,7 @@ returns-clause-holder g c =
     let held = map (held_message s (jobs p).tasks) (jobs p).messages in
     let told : c.link_holder.result ≡ holder_among place n held =
     c.link_holder.ensures
-    ∙ ap (λ x. holder_among place n (map (held_message x b.tasks.now) b.messages.now)) c.board.ensures.over
-    ∙ ap (λ js. holder_among place n (map (held_message s js.tasks) js.messages)) c.board.ensures.held in
+    ∙ ap (λ x. holder_among place n (map (held_message x b.tasks.now) c.held.result.now)) c.board.ensures.over
+    ∙ ap (λ ts. holder_among place n (map (held_message s ts) c.held.result.now)) c.board.ensures.tasks
+    ∙ ap (λ ms. holder_among place n (map (held_message s (jobs p).tasks) ms)) c.held.ensures in
     subst (λ (o : Option (ℕ × ℕ)). HolderIs held place n o) (sym told) (holder_is place n held (messages_fit s (jobs p).tasks (jobs p).messages))

@@ -19,5 +19,5 @@ returns-clause-answer g c =
     let found : c.first_phase.result ≡ first_phase s (jobs p) t =
     phases s (jobs p) t past _
     (c.first_phase.ensures
-    ∙ ap (λ js. first_from (λ v. clear (first_met (task_takes (task_at t v)) (map held_task js.tasks))) (t.period + 1 - t.width) 0) c.board.ensures.held) in
+    ∙ ap (λ ts. first_from (λ v. clear (first_met (task_takes (task_at t v)) (map held_task ts))) (t.period + 1 - t.width) 0) c.held.ensures) in
     c.ok_or.ensures.value ∙ sym (ap (λ r. r.0) (task_goes s (jobs p) t past _ found) ∙ task_answers (jobs p) t c.first_phase.result)

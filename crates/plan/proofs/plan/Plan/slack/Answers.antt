@@ -21,6 +21,6 @@ returns-clause-least g c =
     let m = c.in_ok-m.m in
     let found : named message_name c.args.name (jobs p).messages ≡ Some m = search rules in
     let told : c.slack_of.result ≡ slack_among s (jobs p).tasks m =
-    c.slack_of.ensures ∙ ap (λ x. slack_among x c.board.result.tasks.now m) c.board.ensures.over ∙ ap (λ js. slack_among s js.tasks m) c.board.ensures.held in
+    c.slack_of.ensures ∙ ap (λ x. slack_among x c.board.result.tasks.now m) c.board.ensures.over ∙ ap (λ ts. slack_among s ts m) c.board.ensures.tasks in
     let is : slack_held s (jobs p) (named message_name c.args.name (jobs p).messages) ≡ c.slack_of.result = ap (slack_held s (jobs p)) found ∙ sym told in
     subst (λ r. IfOk r (HeldSlack s (jobs p) c.args.name)) (sym c.ok_or-2.ensures.value) (least s (jobs p) c.args.name c.slack_of.result is)
