@@ -14,20 +14,20 @@ abbrev pub kind_read : ℕ → Result FabricKind HeadFault
 kind_read k = cond (k == 1) (Ok Mesh) (cond (k == 2) (Ok Listed) (Err Version))
 
 -- version 1, and the zero byte 0
-abbrev pub head_known : List ℕ → Bool
-head_known bs = slice_index bs 0 == 1 && slice_index bs 5 == 0
+abbrev pub version_known : List ℕ → Bool
+version_known bs = slice_index bs 0 == 1 && slice_index bs 5 == 0
 
 -- the head of a kind, and the rest
-abbrev pub head_of : List ℕ → Result FabricKind HeadFault → Result (Head × List ℕ) HeadFault
-head_of file (Err e) = Err e
-head_of file (Ok kind) =
+abbrev pub head_with : List ℕ → Result FabricKind HeadFault → Result (Head × List ℕ) HeadFault
+head_with file (Err e) = Err e
+head_with file (Ok kind) =
     Ok (record { kind = kind; x = slice_index file 2; y = slice_index file 3; delay = slice_index file 4 }, drop 6 file)
 
 -- the head and the rest, or the first fault
 abbrev pub head_read : List ℕ → Result (Head × List ℕ) HeadFault
 head_read file =
     cond (nat_lt (length file) 6) (Err Short)
-    (cond (head_known file) (head_of file (kind_read (slice_index file 1))) (Err Version))
+    (cond (version_known file) (head_with file (kind_read (slice_index file 1))) (Err Version))
 
 -- the number of each fault
 abbrev pub head_number : HeadFault → ℕ
