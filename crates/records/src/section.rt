@@ -71,10 +71,8 @@ pub fn counted(file: &[u8]) -> Option<u16>
 pub fn cut<'a, R: Record>(file: &'a [u8]) -> Result<(Section<'a, R>, &'a [u8]), CutOff>
     ensures { MatchResult result (λ p. cut_of R.Record.SIZE file.now ≡ Ok (p.0.bytes.now, p.1.now)) (λ e. cut_of R.Record.SIZE file.now ≡ Err e.whole) }
 {
-    let [high, low, body @ ..] = file else {
-        return Err(CutOff { whole: 0 });
-    };
-    let n = u16::from_be_bytes([*high, *low]) as usize;
+    let n = counted(file).ok_or(CutOff { whole: 0 })? as usize;
+    let body = &file[2..];
     let each = R::SIZE;
     let fit = body.len() / each;
     if fit < n {
