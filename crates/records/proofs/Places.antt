@@ -1,9 +1,10 @@
 -- Where a name stands in a list of records. Assumes nothing.
-use Rattle.std.proofs.Common.{◌≡◌, ℕ, suc, ◌+◌, ◌<◌, ◌≤◌, Bool, true, false, not, cond, ◌&&◌, eqb, ltb, List, [], ◌∷◌, length, get_or, is_some, Some, None, Option, sym, refl, ap, ◌∙◌, subst, arith}
+use Rattle.std.proofs.Common.{◌≡◌, ℕ, suc, ◌+◌, ◌<◌, ◌≤◌, Bool, true, false, not, cond, ◌&&◌, eqb, ltb, List, [], ◌∷◌, length, get_or, take, is_some, Some, None, Option, sym, refl, ap, ◌∙◌, subst, arith}
 use Rattle.std.proofs.Math.Numerals.{one-add}
 use Prim.Native.Nat.compare
 use Rattle.std.specs.Option.{option_map}
 use Rattle.std.specs.List.{insert, position, position_or_len, prefix_len, remove}
+use Rattle.std.proofs.lemmas.List.{length-take-le}
 use Rattle.std.proofs.lemmas.Bool.{cond-true, cond-false, cond_both, lt-ltb, ltb-true, ltb-false, eqb-false, and_parts, and_from}
 use Rattle.records.specs.Named.{named, place, spot, add, without, ascends}
 
@@ -50,6 +51,11 @@ apart : (b : Bool) (o : Option ℕ) → cond b (Some 0) (option_map suc o) ≡ N
 apart true o e = let z : ◌≡◌ {A = ℕ} 0 1 = cc in absurd (omega arith)
 apart false None e = (refl, refl)
 apart false (Some k) e = let z : ◌≡◌ {A = ℕ} 0 1 = cc in absurd (omega arith)
+
+-- not found at all: not this one, and none of the rest
+missed : {X : Type 0} (b : Bool) (x : X) (o : Option X) → cond b (Some x) o ≡ None → (b ≡ false) × (o ≡ None)
+missed true x o e = let z : ◌≡◌ {A = ℕ} 0 1 = cc in absurd (omega arith)
+missed false x o e = (refl, e)
 
 above : (a b : ℕ) → b ≤ a → (a ≡ b → ⊥) → b < a
 above a b h ne = omega arith
@@ -101,20 +107,11 @@ module _ {X : Type 0} (f : X → ℕ) where
   length_add x (y ∷ ys) =
       cond_both (ltb (f y) (f x)) (y ∷ add f x ys) (x ∷ y ∷ ys) (λ l. length l ≡ suc (suc (length ys))) (λ _. ap suc (length_add x ys)) (λ _. refl)
 
-  -- one record less, where the name is there
-  pub length_without : (n : ℕ) (xs : List X) (i : ℕ) → spot f n xs ≡ Some i → suc (length (without f n xs)) ≡ length xs
-  length_without n [] i e = let z : ◌≡◌ {A = ℕ} 0 1 = cc in absurd (omega arith)
-  length_without n (x ∷ xs) i e =
-      (elim (eqb (f x) n) as (λ b. cond b (Some 0) (option_map suc (spot f n xs)) ≡ Some i → suc (length (cond b xs (x ∷ without f n xs))) ≡ suc (length xs)) [
-        | true ↦ λ _. refl
-        | false ↦ λ z. let (k, at, is) = step (spot f n xs) i z in ap suc (length_without n xs k at)
-      ]) e
-
   -- a list is the same without a name that it has not
-  pub without_none : (n : ℕ) (xs : List X) → spot f n xs ≡ None → without f n xs ≡ xs
+  pub without_none : (n : ℕ) (xs : List X) → named f n xs ≡ None → without f n xs ≡ xs
   without_none n [] e = refl
   without_none n (x ∷ xs) e =
-      let p = apart (eqb (f x) n) (spot f n xs) e in
+      let p = missed (eqb (f x) n) x (named f n xs) e in
       cond-false (eqb (f x) n) xs (x ∷ without f n xs) p.0 ∙ ap (λ l. x ∷ l) (without_none n xs p.1)
 
   -- a smaller start leaves names ascending
@@ -143,3 +140,11 @@ module _ {X : Type 0} (f : X → ℕ) where
       (λ t. and_from (ltb m (f y)) (ascends f (f y) (add f x ys)) p.0 (ascends_add (f y) x ys (ltb-true (f y) (f x) t) q.1 p.1))
       (λ t. and_from (ltb m (f x)) (ltb (f x) (f y) && ascends f (f y) ys) (lt-ltb m (f x) h)
       (and_from (ltb (f x) (f y)) (ascends f (f y) ys) (lt-ltb (f x) (f y) (above (f y) (f x) (ltb-false (f y) (f x) t) (eqb-false (f y) (f x) q.0))) p.1))
+
+  -- a place among the first k is at most k
+  pub place_held : (n k : ℕ) (xs : List X) (p : ℕ) → k ≤ length xs → p ≡ place f n (take k xs) → p ≤ k
+  place_held n k xs p h at = omega (arith, place_within n (take k xs), length-take-le k xs h)
+
+  -- a spot among the first k is below k, and to take its record out is to leave its name out
+  pub spot_held : (n k : ℕ) (xs : List X) (i : ℕ) → k ≤ length xs → Some i ≡ spot f n (take k xs) → (i < k) × (remove (take k xs) i ≡ without f n (take k xs))
+  spot_held n k xs i h at = let w = spot_within n (take k xs) i (sym at) in (omega (arith, w.0, length-take-le k xs h), w.1)

@@ -1,7 +1,11 @@
-// Tables of named records, in ascending names.
-ghost use Rattle.std.specs.Prelude.{◌≤◌};
+// Tables of named records, in ascending names: the first so many places hold records, and the rest are free.
+ghost use Rattle.std.specs.Prelude.{◌≡◌, ◌+◌, ◌-◌, ◌<◌, ◌≤◌, if◌then◌else◌, ◌++◌, [], ◌∷◌, length, take, drop, nat_le, nat_lt, is_ok, None, IfSome, MatchOption, MatchResult};
+ghost use Rattle.std.specs.List.{insert, remove};
+ghost use Rattle.records.specs.Named.{named, place, add, without};
 
 mod held;
+
+use crate::named::{Named, find};
 
 // A table of N places, of which the first `count` hold records.
 #[derive(Drop)]
@@ -14,3 +18,66 @@ pub struct Table<R, const N: usize> {
 // No place of a table is free.
 #[derive(Clone, Copy, PartialEq, Eq, Debug)]
 pub struct Full;
+
+// How many records stand before the first whose name is not below this one: a walk as in `find`, with no premise that names ascend.
+fn place_of<R: Named>(held: &[R], name: u16) -> usize
+    ensures { result ≡ place R.Named.label name held.now }
+{
+    held.iter().take_while(|x| x.name() < name).count()
+}
+
+// x goes in at a place of the first `count` records; those from there on move up by one.
+fn put_at<R: Copy>(table: &mut [R], count: usize, at: usize, x: R)
+    requires room { count < length table.old }
+    requires within { at ≤ count }
+    ensures after { take (count + 1) table.new ≡ insert (take count table.old) at x }
+    ensures rest { drop (count + 1) table.new ≡ drop (count + 1) table.old }
+{
+    table[count] = x;
+    let part = &mut table[at..count + 1];
+    part.rotate_right(1);
+}
+
+// The record at a place goes out of the first `count`; those above it move down by one.
+fn take_at<R: Copy>(table: &mut [R], count: usize, at: usize)
+    requires room { count ≤ length table.old }
+    requires within { at < count }
+    ensures after { take (count - 1) table.new ≡ remove (take count table.old) at }
+    ensures spare { take count table.new ≡ remove (take count table.old) at ++ take 1 (drop at (take count table.old)) }
+    ensures rest { drop count table.new ≡ drop count table.old }
+{
+    let part = &mut table[at..count];
+    part.rotate_left(1);
+}
+
+// Puts x into its place among the first `count` records, where a place is free behind them.
+#[tactic(auto, using(crate::proofs::Places::add_is, crate::proofs::Places::place_held))]
+pub fn insert<R: Named + Copy>(table: &mut [R], count: usize, x: R) -> Result<(), Full>
+    ensures answer { is_ok result ≡ nat_lt count (length table.old) }
+    ensures after { MatchResult result (λ _. take (count + 1) table.new ≡ add R.Named.label x (take count table.old)) (λ _. table.new ≡ table.old) }
+    ensures rest { drop (count + 1) table.new ≡ drop (count + 1) table.old }
+{
+    if count >= table.len() {
+        return Err(Full);
+    }
+    let at = place_of(&table[..count], x.name());
+    put_at(table, count, at, x);
+    Ok(())
+}
+
+// Takes the first record of a name out of the first `count`, where one has it; it then stands behind those still held.
+pub fn remove<R: Named + Copy>(table: &mut [R], count: usize, name: u16) -> Option<R>
+    ensures answer { result ≡ (if nat_le count (length table.old) then named R.Named.label name (take count table.old) else None) }
+    ensures after { MatchOption result (table.new ≡ table.old) (λ _. take (count - 1) table.new ≡ without R.Named.label name (take count table.old)) }
+    ensures spare { IfSome result (λ x. take count table.new ≡ without R.Named.label name (take count table.old) ++ x ∷ []) }
+    ensures rest { drop count table.new ≡ drop count table.old }
+{
+    if count > table.len() {
+        return None;
+    }
+    let held = &table[..count];
+    let at = find(held, name)?;
+    let gone = held[at];
+    take_at(table, count, at);
+    Some(gone)
+}

@@ -1,42 +1,10 @@
-// What a table holds: records are put in and taken out by one turn of a part of the places.
-ghost use Rattle.std.specs.Prelude.{◌≡◌, ◌+◌, ◌-◌, ◌<◌, ◌≤◌, ◌++◌, [], ◌∷◌, length, take, drop, nat_le, nat_lt, is_ok, None, IfSome, MatchResult};
-ghost use Rattle.std.specs.List.{insert, remove};
-ghost use Rattle.records.specs.Named.{named, place, add, without};
+// What a table holds.
+ghost use Rattle.std.specs.Prelude.{◌≡◌, ◌+◌, ◌++◌, [], ◌∷◌, length, take, drop, nat_le, nat_lt, is_ok, None, IfSome, MatchResult};
+ghost use Rattle.records.specs.Named.{named, add, without};
 ghost use Rattle.records.specs.Tables.{held};
 
-use super::{Full, Table};
-use crate::named::{Named, find};
-
-// How many records stand before the first whose name is not below this one.
-fn place_of<R: Named>(held: &[R], name: u16) -> usize
-    ensures { result ≡ place R.Named.label name held.now }
-{
-    held.iter().take_while(|x| x.name() < name).count()
-}
-
-// x goes in at a place of the first `count` records; those from there on move up by one.
-fn put_at<R: Copy>(table: &mut [R], count: usize, at: usize, x: R)
-    requires room { count < length table.old }
-    requires within { at ≤ count }
-    ensures after { take (count + 1) table.new ≡ insert (take count table.old) at x }
-    ensures rest { drop (count + 1) table.new ≡ drop (count + 1) table.old }
-{
-    table[count] = x;
-    let part = &mut table[at..count + 1];
-    part.rotate_right(1);
-}
-
-// The record at a place goes out of the first `count`; those above it move down by one.
-fn take_at<R: Copy>(table: &mut [R], count: usize, at: usize)
-    requires room { count ≤ length table.old }
-    requires within { at < count }
-    ensures after { take (count - 1) table.new ≡ remove (take count table.old) at }
-    ensures spare { take count table.new ≡ remove (take count table.old) at ++ take 1 (drop at (take count table.old)) }
-    ensures rest { drop count table.new ≡ drop count table.old }
-{
-    let part = &mut table[at..count];
-    part.rotate_left(1);
-}
+use super::{Full, Table, insert, remove};
+use crate::named::Named;
 
 impl<R, const N: usize> Table<R, N> {
     // A table that holds nothing yet.
@@ -68,11 +36,7 @@ impl<R: Named + Copy, const N: usize> Table<R, N> {
         ensures after { MatchResult result (λ _. held self.new ≡ add R.Named.label x (held self.old)) (λ _. self.new ≡ self.old) }
         ensures rest { drop (self.old.count + 1) self.new.places ≡ drop (self.old.count + 1) self.old.places }
     {
-        if self.is_full() {
-            return Err(Full);
-        }
-        let at = place_of(self.held(), x.name());
-        put_at(&mut self.places, self.count, at, x);
+        insert(&mut self.places, self.count, x)?;
         self.count += 1;
         Ok(())
     }
@@ -85,9 +49,7 @@ impl<R: Named + Copy, const N: usize> Table<R, N> {
         ensures spare { IfSome result (λ x. take self.old.count self.new.places ≡ held self.new ++ x ∷ []) }
         ensures rest { drop self.old.count self.new.places ≡ drop self.old.count self.old.places }
     {
-        let at = find(self.held(), name)?;
-        let gone = self.held()[at];
-        take_at(&mut self.places, self.count, at);
+        let gone = remove(&mut self.places, self.count, name)?;
         self.count -= 1;
         Some(gone)
     }

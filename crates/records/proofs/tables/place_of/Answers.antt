@@ -5,7 +5,7 @@ use Rattle.std.proofs.lemmas.Iterator.Consumers.{count_from_yields_List}
 use Rattle.std.proofs.lemmas.Iterator.Search.{YieldsList-from_take_while}
 use Rattle.std.proofs.lemmas.List.Folds.{length-prefix_len}
 use Rattle.records.proofs.Places.{place_is}
-use Rattle.records.proofs.tables.held.place_of.Goals as goal
+use Rattle.records.proofs.tables.place_of.Goals as goal
 
 pub returns : goal.returns
 returns g c =

@@ -2,7 +2,7 @@ use Rattle.std.proofs.Common.{◌-◌, ◌∙◌, arith}
 use Rattle.std.proofs.lemmas.List.Edits.{length-between}
 use Rattle.std.proofs.lemmas.Slice.{drop-put_mid}
 use Rattle.records.proofs.Shifts.{turned_out, turned_out_spare}
-use Rattle.records.proofs.tables.held.take_at.Goals as goal
+use Rattle.records.proofs.tables.take_at.Goals as goal
 
 pub returns : goal.returns
 returns g c =

@@ -2,7 +2,7 @@ use Rattle.std.proofs.Common.{◌+◌, set, ◌∙◌, arith}
 use Rattle.std.proofs.lemmas.List.Edits.{length-between}
 use Rattle.std.proofs.lemmas.List.{length-set}
 use Rattle.records.proofs.Shifts.{turned_in, turned_in_rest}
-use Rattle.records.proofs.tables.held.put_at.Goals as goal
+use Rattle.records.proofs.tables.put_at.Goals as goal
 
 pub returns : goal.returns
 returns g c =

@@ -1,0 +1,43 @@
+use Rattle.std.proofs.Common.{◌≡◌, leb, [], ◌∷◌, ◌++◌, length, take, drop, Some, sym, ap, ◌∙◌, drop-cons, arith}
+use Rattle.std.proofs.lemmas.Bool.{cond-true, le-leb}
+use Rattle.records.specs.Named.{without}
+use Rattle.records.proofs.Places.{named_at, named_none, spot_held, spot_within}
+use Rattle.records.proofs.tables.remove.Goals as goal
+
+pub returns-in_err-at-clause-answer : goal.returns-in_err-at-clause-answer
+returns-in_err-at-clause-answer g c =
+    let xs = take c.args.count c.args.table.now in
+    c.from_residual.ensures
+    ∙ sym (cond-true (leb c.args.count (length c.args.table.now)) _ _ (le-leb c.args.count (length c.args.table.now) (omega arith)) ∙ named_none g.R.Named.label c.args.name xs (sym c.in_err-at.ensures))
+
+pub offset_bounds-held-at : goal.offset_bounds-held-at
+offset_bounds-held-at g c = omega (arith, (spot_within g.R.Named.label c.args.name (take c.args.count c.args.table.now) c.in_ok-at.at (sym c.in_ok-at.ensures)).0)
+
+pub bounds-held-at : goal.bounds-held-at
+bounds-held-at g c = (spot_within g.R.Named.label c.args.name (take c.args.count c.args.table.now) c.in_ok-at.at (sym c.in_ok-at.ensures)).0
+
+pub take_at-requires-clause-within : goal.take_at-requires-clause-within
+take_at-requires-clause-within g c = (spot_held g.R.Named.label c.args.name c.args.count c.args.table.now c.in_ok-at.at (omega arith) c.in_ok-at.ensures).0
+
+pub returns-clause-answer : goal.returns-clause-answer
+returns-clause-answer g c =
+    let xs = take c.args.count c.args.table.now in
+    ap Some c.index-held-at.is
+    ∙ sym (cond-true (leb c.args.count (length c.args.table.now)) _ _ (le-leb c.args.count (length c.args.table.now) (omega arith)) ∙ named_at g.R.Named.label c.args.name xs c.in_ok-at.at c.index-held-at.result (sym c.in_ok-at.ensures))
+
+pub returns-clause-after : goal.returns-clause-after
+returns-clause-after g c =
+    c.take_at.ensures.after ∙ (spot_held g.R.Named.label c.args.name c.args.count c.args.table.now c.in_ok-at.at (omega arith) c.in_ok-at.ensures).1
+
+-- the part without the record, and behind it the record alone
+pub returns-clause-spare : goal.returns-clause-spare
+returns-clause-spare g c =
+    let f = g.R.Named.label in
+    let xs = take c.args.count c.args.table.now in
+    let at = c.in_ok-at.at in
+    let gone = c.index-held-at.result in
+    let alone : take 1 (drop at xs) ≡ gone ∷ [] =
+    ap (take 1) (drop-cons xs at gone (spot_within f c.args.name xs at (sym c.in_ok-at.ensures)).0) ∙ ap (λ x. x ∷ []) (sym c.index-held-at.is) in
+    c.take_at.ensures.spare
+    ∙ ap (λ l. l ++ take 1 (drop at xs)) (spot_within f c.args.name xs at (sym c.in_ok-at.ensures)).1
+    ∙ ap (λ l. without f c.args.name xs ++ l) alone
