@@ -46,7 +46,8 @@ pub struct Link {
     pub to: u8,
 }
 
-// A route of a listed fabric: the first `length` of `links` are its link numbers.
+// A route of a listed fabric: the first `length` of `links` are its link numbers. The length stands beside them, since the file's
+// record has twelve bytes of links whatever the length, and all of them come back.
 #[derive(Clone, Copy, PartialEq, Eq, Debug)]
 pub struct Route {
     pub from: u8,
@@ -65,6 +66,7 @@ pub struct Task {
 }
 
 impl Task {
+    // Fills the free places of a table and is never read. No `Default`, which could be taken for a task.
     pub const EMPTY: Task = Task {
         name: 0,
         core: 0,
@@ -86,6 +88,7 @@ pub struct Message {
 }
 
 impl Message {
+    // Fills the free places of a table and is never read. No `Default`, which could be taken for a message.
     pub const EMPTY: Message = Message {
         name: 0,
         source: 0,
