@@ -1,5 +1,5 @@
 -- One write after another. Assumes nothing.
-use Rattle.std.proofs.Common.{◌≡◌, ℕ, ◌+◌, ◌≤◌, List, [], ◌++◌, length, sym, refl, ap, ◌∙◌, add-zero, arith, length-append, take-append-drop}
+use Rattle.std.proofs.Common.{◌≡◌, ℕ, ◌+◌, ◌≤◌, List, ◌++◌, length, sym, refl, ap, ◌∙◌, arith, length-append}
 use Rattle.std.proofs.lemmas.List.Edits.{paste_all, paste-paste}
 use lib.Seq.{paste}
 use Rattle.refusals.specs.Written.{written}
@@ -7,10 +7,6 @@ use Rattle.refusals.specs.Written.{written}
 -- a write is a paste of the whole text
 pub written_is : (b : List ℕ) (i : ℕ) (s : List ℕ) → paste b i s (length s) ≡ written b i s
 written_is b i s = paste_all b i s (length s) refl
-
--- a write of nothing changes nothing
-pub written_none : (b : List ℕ) (i : ℕ) → written b i [] ≡ b
-written_none b i = rw add-zero (take-append-drop i b)
 
 -- a write where the one before ended is one write of both texts
 pub written_written : (b : List ℕ) (i : ℕ) (s t : List ℕ) → i ≤ length b → written (written b i s) (i + length s) t ≡ written b i (s ++ t)

@@ -8,7 +8,7 @@ use crate::refusal::{BufferFault, Detail, Told};
 use crate::words::word;
 
 // No line is longer, so a buffer of this length takes any.
-const LONGEST_LINE: usize = 64;
+pub const LONGEST_LINE: usize = 64;
 
 impl Pen<'_> {
     fn put_clear(&mut self, tasks: usize, messages: usize)

@@ -1,4 +1,5 @@
-// A buffer that texts and decimal numbers are written into one after the other.
+// A buffer that texts and decimal numbers are written into one after the other. It stands beside the texts by `Display`, since a
+// verdict goes into its caller's buffer without a heap.
 ghost use Rattle.std.specs.Prelude.{◌≡◌, ◌+◌, ◌≤◌, length};
 ghost use Rattle.refusals.specs.Written.{written};
 

@@ -1,4 +1,5 @@
-// The words of the refusals, kept in constant memory and padded to eight bytes with spaces.
+// The words of the refusals, kept in constant memory and padded to eight bytes with spaces. The number of a refusal is a literal
+// beside its fault, in the crates above: this table of 27 words is the one place where all stand, and docs/REFUSALS.md names them.
 ghost use Rattle.std.specs.Prelude.{◌≡◌, ◌≤◌, length};
 ghost use Rattle.refusals.specs.Words.{word_of};
 
