@@ -1,7 +1,7 @@
 // The verdict line, written into the caller's buffer.
 ghost use Rattle.std.specs.Prelude.{◌≡◌, ◌+◌, ◌≤◌, length, IfOk, if◌then◌else◌, Ok, Err, nat_lt};
 ghost use Rattle.refusals.specs.Lines.{line_of, detail_text, too_short};
-ghost use Rattle.refusals.specs.Written.{written};
+ghost use Rattle.refusals.specs.Written.{Puts, written};
 
 use crate::pen::Pen;
 use crate::refusal::{BufferFault, Detail, Told};
@@ -13,11 +13,8 @@ pub const LONGEST_LINE: usize = 64;
 impl Pen<'_> {
     fn put_clear(&mut self, tasks: usize, messages: usize)
         requires { self.old.at + 64 ≤ length self.old.out.now }
-        ensures same { self.new.out.ghost_name ≡ self.old.out.ghost_name }
-        ensures room { length self.new.out.now ≡ length self.old.out.now }
-        ensures end { self.new.at ≡ self.old.at + length (line_of (Ok (tasks, messages))) }
+        ensures puts { Puts self.old self.new (line_of (Ok (tasks, messages))) }
         ensures bound { self.new.at ≤ self.old.at + 64 }
-        ensures holds { self.new.out.now ≡ written self.old.out.now self.old.at (line_of (Ok (tasks, messages))) }
     {
         self.put(b"CLEAR ");
         self.put_number(tasks);
@@ -28,11 +25,8 @@ impl Pen<'_> {
 
     fn put_detail(&mut self, detail: Detail)
         requires { self.old.at + 33 ≤ length self.old.out.now }
-        ensures same { self.new.out.ghost_name ≡ self.old.out.ghost_name }
-        ensures room { length self.new.out.now ≡ length self.old.out.now }
-        ensures end { self.new.at ≡ self.old.at + length (detail_text detail) }
+        ensures puts { Puts self.old self.new (detail_text detail) }
         ensures bound { self.new.at ≤ self.old.at + 33 }
-        ensures holds { self.new.out.now ≡ written self.old.out.now self.old.at (detail_text detail) }
     {
         match detail {
             Detail::Plain => {}
@@ -53,11 +47,8 @@ impl Pen<'_> {
 
     fn put_refused(&mut self, told: Told)
         requires { self.old.at + 64 ≤ length self.old.out.now }
-        ensures same { self.new.out.ghost_name ≡ self.old.out.ghost_name }
-        ensures room { length self.new.out.now ≡ length self.old.out.now }
-        ensures end { self.new.at ≡ self.old.at + length (line_of (Err told)) }
+        ensures puts { Puts self.old self.new (line_of (Err told)) }
         ensures bound { self.new.at ≤ self.old.at + 64 }
-        ensures holds { self.new.out.now ≡ written self.old.out.now self.old.at (line_of (Err told)) }
     {
         self.put(b"REFUSED ");
         self.put_number(told.section);

@@ -1,7 +1,7 @@
 // A buffer that texts and decimal numbers are written into one after the other. It stands beside the texts by `Display`, since a
 // verdict goes into its caller's buffer without a heap.
 ghost use Rattle.std.specs.Prelude.{◌≡◌, ◌+◌, ◌≤◌, length};
-ghost use Rattle.refusals.specs.Written.{written};
+ghost use Rattle.refusals.specs.Written.{Puts};
 
 use itoa::{Buffer, Integer};
 
@@ -15,10 +15,7 @@ pub(crate) struct Pen<'a> {
 impl Pen<'_> {
     pub(crate) fn put(&mut self, text: &[u8])
         requires { self.old.at + length text.now ≤ length self.old.out.now }
-        ensures same { self.new.out.ghost_name ≡ self.old.out.ghost_name }
-        ensures room { length self.new.out.now ≡ length self.old.out.now }
-        ensures end { self.new.at ≡ self.old.at + length text.now }
-        ensures holds { self.new.out.now ≡ written self.old.out.now self.old.at text.now }
+        ensures puts { Puts self.old self.new text.now }
     {
         let end = self.at + text.len();
         self.out[self.at..end].copy_from_slice(text);
@@ -27,11 +24,8 @@ impl Pen<'_> {
 
     pub(crate) fn put_number<I: Integer>(&mut self, n: I)
         requires { self.old.at + I.MAX_STR_LEN ≤ length self.old.out.now }
-        ensures same { self.new.out.ghost_name ≡ self.old.out.ghost_name }
-        ensures room { length self.new.out.now ≡ length self.old.out.now }
-        ensures end { self.new.at ≡ self.old.at + length (I.text n) }
+        ensures puts { Puts self.old self.new (I.text n) }
         ensures bound { self.new.at ≤ self.old.at + I.MAX_STR_LEN }
-        ensures holds { self.new.out.now ≡ written self.old.out.now self.old.at (I.text n) }
     {
         self.put(Buffer::new().format(n).as_bytes());
     }

@@ -1,25 +1,23 @@
-use Rattle.std.proofs.Common.{codes, decimal, ap, arith, w64, rules}
+use Rattle.std.proofs.Common.{◌≤◌, length, ap, arith, w64, rules}
 use Rattle.std.proofs.lemmas.Int.{to_z-of_z}
-use Rattle.std.specs.Fmt.{signed_decimal}
 use Rattle.refusals.specs.Lines.{detail_text}
-use Rattle.refusals.proofs.Writing.{starts, goes_on}
+use Rattle.refusals.proofs.Writing.{goes_on}
 use Rattle.refusals.proofs.pen.Pen.put_detail.Goals as goal
 
 -- a space, then the slack
-pub returns-in-Slack-clause-holds : goal.returns-in-Slack-clause-holds
-returns-in-Slack-clause-holds c =
+pub returns-in-Slack-clause-puts : goal.returns-in-Slack-clause-puts
+returns-in-Slack-clause-puts c =
+    let fits : c.args.self.now.at ≤ length c.args.self.now.out.now = omega arith in
     let same = to_z-of_z w64 c.in-Slack.z (search rules) in
-    let a = starts (codes " ") (omega arith) c.put.ensures.end c.put.ensures.holds in
-    let a = goes_on (signed_decimal c.in-Slack.z) a (rw same at c.put_number.ensures.end) (rw same at c.put_number.ensures.holds) in
-    rw (ap detail_text c.in-Slack.is) a.held
+    rw (ap detail_text c.in-Slack.is) (goes_on fits c.put.ensures.puts (rw same at c.put_number.ensures.puts))
 
 -- a space before each of the three numbers
-pub returns-in-Meeting-clause-holds : goal.returns-in-Meeting-clause-holds
-returns-in-Meeting-clause-holds c =
-    let a = starts (codes " ") (omega arith) c.put-in-Meeting.ensures.end c.put-in-Meeting.ensures.holds in
-    let a = goes_on (decimal c.in-Meeting.meeting.instant) a c.put_number-in-Meeting.ensures.end c.put_number-in-Meeting.ensures.holds in
-    let a = goes_on (codes " ") a c.put-in-Meeting-2.ensures.end c.put-in-Meeting-2.ensures.holds in
-    let a = goes_on (decimal c.in-Meeting.meeting.held) a c.put_number-in-Meeting-2.ensures.end c.put_number-in-Meeting-2.ensures.holds in
-    let a = goes_on (codes " ") a c.put-in-Meeting-3.ensures.end c.put-in-Meeting-3.ensures.holds in
-    let a = goes_on (decimal c.in-Meeting.meeting.place) a c.put_number-in-Meeting-3.ensures.end c.put_number-in-Meeting-3.ensures.holds in
-    rw (ap detail_text c.in-Meeting.is) a.held
+pub returns-in-Meeting-clause-puts : goal.returns-in-Meeting-clause-puts
+returns-in-Meeting-clause-puts c =
+    let fits : c.args.self.now.at ≤ length c.args.self.now.out.now = omega arith in
+    let p = goes_on fits c.put-in-Meeting.ensures.puts c.put_number-in-Meeting.ensures.puts in
+    let p = goes_on fits p c.put-in-Meeting-2.ensures.puts in
+    let p = goes_on fits p c.put_number-in-Meeting-2.ensures.puts in
+    let p = goes_on fits p c.put-in-Meeting-3.ensures.puts in
+    let p = goes_on fits p c.put_number-in-Meeting-3.ensures.puts in
+    rw (ap detail_text c.in-Meeting.is) p
