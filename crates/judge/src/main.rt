@@ -3,7 +3,7 @@
 
 use anyhow::anyhow;
 use std::io::{Read, Write};
-use verdict::judge;
+use verdict::{LONGEST_LINE, judge};
 
 // One byte more than a plan file may have: a longer input is refused all the same.
 const MOST_READ: u64 = 8193;
@@ -11,7 +11,7 @@ const MOST_READ: u64 = 8193;
 fn run(rt: &HostRuntime) -> anyhow::Result<()> {
     let mut file = Vec::new(rt.alloc());
     rt.stdin().take(MOST_READ).read_to_end(&mut file)?;
-    let mut line = [0u8; 64];
+    let mut line = [0u8; LONGEST_LINE];
     let Ok(end) = judge(&file, &mut line) else {
         return Err(anyhow!("the buffer is too short"));
     };

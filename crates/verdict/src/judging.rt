@@ -13,7 +13,7 @@ use listed::{Listed, SetFault, read_section};
 use plan::Plan;
 use records::head::{FabricKind, Head, HeadFault, read_head};
 use records::record::{Link, Route};
-use refusals::line::write_line;
+use refusals::line::{LONGEST_LINE, write_line};
 use refusals::refusal::{BufferFault, Told};
 
 // No plan file is longer.
@@ -77,7 +77,7 @@ pub fn judge(file: &[u8], out: &mut [u8]) -> Result<usize, BufferFault>
     ensures told { refusal_of buffer_told result ≡ (if nat_lt (length out.old) 64 then Some (plain 27) else None) }
     ensures bound { IfOk result (λ n. n ≤ 64) }
 {
-    if out.len() < 64 {
+    if out.len() < LONGEST_LINE {
         return Err(BufferFault);
     }
     write_line(out, judge_file(file).map_err(Told::from))

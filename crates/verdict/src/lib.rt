@@ -5,3 +5,4 @@ mod fault;
 mod judging;
 
 pub use judging::judge;
+pub use refusals::line::LONGEST_LINE;
