@@ -45,17 +45,13 @@ fn below(numbers: &[u8], limit: usize) -> bool
 fn follows(links: &Section<'_, Link>, from: u8, numbers: &[u8], to: u8) -> bool
     ensures { result ≡ chain_good links.now.bytes.now from numbers.now to }
 {
-    let mut at = from;
-    for n in numbers {
-        let Some(link) = links.get(*n as usize) else {
-            return false;
-        };
-        if link.from != at {
-            return false;
-        }
-        at = link.to;
+    match numbers {
+        [] => from == to,
+        [n, rest @ ..] => match links.get(*n as usize) {
+            Some(link) => link.from == from && follows(links, link.to, rest, to),
+            None => false,
+        },
     }
-    at == to
 }
 
 // Whether no number stands twice.
