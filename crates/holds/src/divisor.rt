@@ -10,6 +10,7 @@ pub(crate) fn gcd(a: u32, b: u32) -> u32
 {
     let mut x = a;
     let mut y = b;
+    // a `while`, since each pair comes of the pair before and nothing counts the turns: no iterator is plainer
     while y != 0 {
         let rest = x % y;
         x = y;

@@ -51,6 +51,7 @@ pub(crate) fn first_landing(r: u32, a: u32, m: u32, w: u32) -> Option<u32>
     ensures { Least (Lands r a m w) result }
 {
     let mut walk = Walk::new(r, a, m, w);
+    // a `while`, since each walk comes of the walk before and nothing counts the turns: no iterator is plainer
     while walk.at >= walk.wide {
         if walk.step == 0 {
             return None;

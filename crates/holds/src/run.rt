@@ -6,6 +6,7 @@ ghost use Rattle.std.specs.Prelude.{◌≡◌};
 use super::hold::Hold;
 
 // The run of `h` that holds the instant `n`.
+#[tactic(auto, using(crate::proofs::Busy::run_is, crate::proofs::Limits::proper))]
 pub fn run_at(h: Hold, n: u64) -> Option<u64>
     ensures value { result ≡ run (span h) n }
     ensures instants { RunAt (span h) n result }

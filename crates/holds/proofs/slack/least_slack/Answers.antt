@@ -1,4 +1,4 @@
-use Rattle.std.proofs.Common.{◌≡◌, ℕ, ◌<◌, ℤ, sym, ap, ◌∙◌, subst, arith}
+use Rattle.std.proofs.Common.{◌≡◌, ℕ, ◌<◌, ℤ, ap, ◌∙◌, subst, arith}
 use Rattle.std.proofs.lemmas.Int.{ints}
 use Rattle.holds.specs.Gcd.{gcd}
 use Rattle.holds.specs.declared.deliveries.Deliveries.{Deliveries}
@@ -18,14 +18,11 @@ some d r g e = omega (arith, gcd_positive d.period r.period (flow_some d))
 short : (d : Deliveries) (r : Hold) (g : ℕ) → g ≡ gcd d.period r.period → gap d.due r.start g < g
 short d r g e = gap_below d.due r.start g (some d r g e)
 
-pub returns : goal.returns
-returns c =
+pub returns-clause-least : goal.returns-clause-least
+returns-clause-least c =
     let wait : c.gap.result ≡ gap c.args.packets.due c.args.reader.start (gcd c.args.packets.period c.args.reader.period)
     = c.gap.ensures ∙ ap (λ (n : ℕ). gap c.args.packets.due c.args.reader.start n) c.gcd-g.ensures in
     let less : c.gap.result < c.gcd-g.result = omega (arith, short c.args.packets c.args.reader c.gcd-g.result c.gcd-g.ensures) in
     let same : least_slack (flow c.args.packets) (span c.args.reader) ≡ _ = omega (arith, ints) in
-    record {
-      value = sym same;
-      least = subst (λ (v : ℤ). LeastSlack (flow c.args.packets) (span c.args.reader) v) same
-          (slack_is_least (flow c.args.packets) (span c.args.reader) (flow_some c.args.packets) (period_some c.args.reader));
-    }
+    subst (λ (v : ℤ). LeastSlack (flow c.args.packets) (span c.args.reader) v) same
+    (slack_is_least (flow c.args.packets) (span c.args.reader) (flow_some c.args.packets) (period_some c.args.reader))
