@@ -8,15 +8,7 @@ ghost use Rattle.holds.specs.Span.{gap};
 pub(crate) fn gcd(a: u32, b: u32) -> u32
     ensures { result ≡ gcd a b }
 {
-    let mut x = a;
-    let mut y = b;
-    // a `while`, since each pair comes of the pair before and nothing counts the turns: no iterator is plainer
-    while y != 0 {
-        let rest = x % y;
-        x = y;
-        y = rest;
-    }
-    x
+    if b == 0 { a } else { gcd(b, a % b) }
 }
 
 // (to - from) mod g.
