@@ -1,5 +1,5 @@
 -- The first fault among records, and what follows where there is none. Assumes nothing.
-use Rattle.std.proofs.Common.{◌≡◌, ℕ, zero, suc, ◌+◌, ◌-◌, ◌<◌, ◌≤◌, Bool, true, false, cond, ◌&&◌, List, Some, None, Ok, Err, Option, sym, refl, ap, ◌∙◌, add-zero, zero-add, arith}
+use Rattle.std.proofs.Common.{◌≡◌, ℕ, zero, suc, ◌+◌, ◌-◌, ◌<◌, Bool, true, false, cond, ◌&&◌, List, Some, None, Ok, Err, Option, sym, refl, ap, ◌∙◌, add-zero, zero-add, arith}
 use Rattle.std.proofs.lemmas.Bool.{and_from, and_parts}
 use Rattle.listed.specs.declared.faults.SetFault.TheVariants.{Link, Route, Chain, Order}
 use Rattle.records.specs.declared.record.Route.{Route as RouteRecord}
@@ -19,10 +19,6 @@ module _ {E : Type 0} (f : ℕ → Option E) where
   -- a record without a fault is passed
   pub first_pass : (k n : ℕ) → k < n → f k ≡ None → first_fault f k (n - k) ≡ first_fault f (k + 1) (n - (k + 1))
   first_pass k n h here = first_more k n h ∙ ap (λ o. either o (first_fault f (k + 1) (n - (k + 1)))) here
-
-  -- nothing is left
-  pub first_all : (k n : ℕ) → n ≤ k → first_fault f k (n - k) ≡ None
-  first_all k n h = let e : n - k ≡ 0 = omega arith in rw e
 
   -- a check of record k that refuses ends the walk with its fault
   pub check_here : (k n : ℕ) (all : Option E) (e : E) → k < n → checked (f k) ≡ Err e → first_fault f k (n - k) ≡ all → Err e ≡ checked all

@@ -1,22 +1,13 @@
--- What reading the head and a section answers. Assumes nothing.
-use Rattle.std.proofs.Common.{◌≡◌, ℕ, ◌+◌, ◌*◌, ◌≤◌, Bool, true, false, cond, ◌&&◌, eqb, ltb, leb, List, length, take, drop, Some, None, Ok, Err, Result, sym, refl, ap, ◌∙◌, le_refl, arith, length-take}
-use Rattle.std.proofs.lemmas.Nat.{mul-le}
-use Rattle.std.proofs.lemmas.Bool.{and_parts, leb-true, ltb-false, cond-false}
+-- The limits of a head that was read. Assumes nothing.
+use Rattle.std.proofs.Common.{◌≡◌, ℕ, ◌≤◌, Bool, true, false, cond, ◌&&◌, eqb, leb, List, Ok, Err, Result, sym, refl, ap, ◌∙◌, arith}
+use Rattle.std.proofs.lemmas.Bool.{and_parts, leb-true}
 use Rattle.records.specs.declared.head.FabricKind.{FabricKind}
 use Rattle.records.specs.declared.head.FabricKind.TheVariants.{Mesh as MeshKind, Listed as ListedKind}
 use Rattle.records.specs.declared.head.Head.{Head as FileHead}
 use Rattle.records.specs.declared.head.HeadFault.{HeadFault}
 use Rattle.records.specs.declared.head.HeadFault.TheVariants.{Limits}
-use Rattle.records.specs.Bytes.{be}
 use Rattle.records.specs.Head.{head_read}
-use Rattle.records.specs.Sections.{fitting, count_of, cut_of}
-use Rattle.listed.specs.declared.faults.SectionFault.TheVariants.{Short}
-use Rattle.listed.specs.Setting.{within, head_fits, head_of_kind, of_listed, listed_head, over, section_read}
-
--- an answer that stands behind a test that had to come out false
-behind : {T E : Type 0} (t : Bool) (e : E) (o : Result T E) (v : T) → cond t (Err e) o ≡ Ok v → (t ≡ false) × (o ≡ Ok v)
-behind true e o v h = let z : ◌≡◌ {A = ℕ} 0 1 = cc in absurd (omega arith)
-behind false e o v h = (refl, h)
+use Rattle.listed.specs.Setting.{head_fits, head_of_kind, of_listed, listed_head}
 
 -- an answer that stands behind a test that had to come out true
 ahead : {T E : Type 0} (t : Bool) (e : E) (o : Result T E) (v : T) → cond t o (Err e) ≡ Ok v → (t ≡ true) × (o ≡ Ok v)
@@ -45,18 +36,3 @@ read_limits (Ok p) h rest read = kind_limits p.0.kind p h rest read
 
 pub head_limits : (file : List ℕ) (h : FileHead) (rest : List ℕ) → listed_head file ≡ Ok (h, rest) → (1 ≤ h.x) × (h.x ≤ 64) × (h.delay ≤ 64)
 head_limits file h rest read = read_limits (head_read file) h rest read
-
--- a section within its limit is read, and its bytes are few
-pub section_few : (size limit : ℕ) (file bytes rest : List ℕ) → over limit (count_of file) ≡ false → cut_of size file ≡ Ok (bytes, rest) → (section_read size limit file ≡ Ok (bytes, rest)) × (length bytes ≤ limit * size)
-section_few size limit file bytes rest few cut =
-    let n = be 2 file 0 in
-    let out : List ℕ × List ℕ = (take (n * size) (drop 2 file), drop (2 + n * size) file) in
-    let p = behind (ltb (length file) 2) 0 (cond (ltb (fitting size file) n) (Err (fitting size file)) (Ok out)) (bytes, rest) cut in
-    let q = behind (ltb (fitting size file) n) (fitting size file) (Ok out) (bytes, rest) p.1 in
-    let e : ◌≡◌ {A = List ℕ × List ℕ} out (bytes, rest) = cc q.1 in
-    let same : take (n * size) (drop 2 file) ≡ bytes = ap (λ v. v.0) e in
-    let low : ltb limit n ≡ false = sym (ap (over limit) (cond-false (ltb (length file) 2) None (Some n) p.0)) ∙ few in
-    let long : length (take (n * size) (drop 2 file)) ≤ n * size = simp length-take (omega arith) in (
-      cond-false _ _ _ few ∙ ap (within Short) cut,
-      omega (arith, long, ap length same, mul-le n size limit size (ltb-false limit n low) (le_refl size)),
-    )
