@@ -28,10 +28,7 @@ fn check_link(nodes: u8, links: &Section<'_, Link>, l: usize) -> Result<(), SetF
 pub(crate) fn check_links(nodes: u8, links: &Section<'_, Link>) -> Result<(), SetFault>
     ensures { result ≡ checked (links_fault nodes links.now.bytes.now) }
 {
-    for l in 0..links.count() {
-        check_link(nodes, links, l)?;
-    }
-    Ok(())
+    (0..links.count()).try_for_each(|l| check_link(nodes, links, l))
 }
 
 // Whether each number is below a limit.
@@ -138,8 +135,5 @@ pub(crate) fn check_routes(
 ) -> Result<(), SetFault>
     ensures { result ≡ checked (routes_fault nodes links.now.bytes.now routes.now.bytes.now) }
 {
-    for k in 0..routes.count() {
-        check_route(nodes, links, routes, k)?;
-    }
-    Ok(())
+    (0..routes.count()).try_for_each(|k| check_route(nodes, links, routes, k))
 }
