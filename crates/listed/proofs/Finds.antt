@@ -1,6 +1,14 @@
 -- The search for a route among the records, and what the found record answers. Assumes nothing.
-use Rattle.std.proofs.Common.{◌≡◌, ℕ, suc, ◌+◌, ◌-◌, ◌/◌, ◌<◌, ◌≤◌, true, false, ◌&&◌, eqb, ltb, List, length, get_or, Some, None, Option, sym, ap, ◌∙◌, subst, ⊎_elim, arith, length-take}
+use Rattle.std.proofs.Common.{◌≡◌, ℕ, zero, suc, ◌+◌, ◌-◌, ◌/◌, ◌<◌, ◌≤◌, Bool, true, false, cond, ◌&&◌, eqb, ltb, List, length, get_or, Some, None, Option, refl, add-zero, sym, ap, ◌∙◌, subst, ⊎_elim, arith, length-take}
+use denote.Param.Members.{Mut}
+use Rattle.std.proofs.iter.Yields.{nat_range_steps}
+use Rattle.std.proofs.iter.runs.Sources.{range_runs}
+use Rattle.std.specs.declared.ops.Range.{Range}
+use Rattle.std.specs.Bool.{IsTrue, then_some}
+use Rattle.std.specs.Fn.{Called}
+use Rattle.std.specs.Iterator.Runs.{AllItemsGive, CallKeepsClosure, IsFirstToGive, SomeRun}
 use Rattle.std.specs.List.{slice_get}
+use Rattle.std.specs.Option.{IsSomeAnd, MatchOption, option_map}
 use Rattle.std.proofs.lemmas.List.{get_or-take}
 use Rattle.std.proofs.lemmas.Option.{slice_get-get_or}
 use Rattle.std.proofs.lemmas.Bool.{lt-ltb, ne_eqb, eq-eqb, and_from, and_left, and_right, cases_eq, cond-true, cond-false}
@@ -25,10 +33,6 @@ seek_here rs a b k t r h here p q =
     ∙ ap (λ o. pick o a b (seek rs a b (k + 1) (t - (k + 1)))) here
     ∙ cond-true _ _ _ (and_from _ _ (eq-eqb _ _ p) (eq-eqb _ _ q))
 
--- a place without a record is passed
-pub seek_gap : (rs : List ℕ) (a b k t : ℕ) → k < t → route_at rs k ≡ None → seek rs a b k (t - k) ≡ seek rs a b (k + 1) (t - (k + 1))
-seek_gap rs a b k t h here = seek_more rs a b k t h ∙ ap (λ o. pick o a b (seek rs a b (k + 1) (t - (k + 1)))) here
-
 -- the test of another pair fails
 other_pair : (x y a b : ℕ) → (x ≡ a → y ≡ b → ⊥) → (eqb x a && eqb y b) ≡ false
 other_pair x y a b other =
@@ -43,6 +47,79 @@ seek_past rs a b k t r h here other =
     seek_more rs a b k t h
     ∙ ap (λ o. pick o a b (seek rs a b (k + 1) (t - (k + 1)))) here
     ∙ cond-false _ _ _ (other_pair r.from r.to a b other)
+
+-- a record, if it goes from node a to node b
+abbrev pub chosen : ℕ → ℕ → Option Route → Option Route
+chosen a b None = None
+chosen a b (Some r) = then_some (eqb r.from a && eqb r.to b) r
+
+pick_none : (a b : ℕ) (o : Option Route) (further : Option (List ℕ)) → chosen a b o ≡ None → pick o a b further ≡ further
+pick_none a b None further e = refl
+pick_none a b (Some r) further e = go (eqb r.from a && eqb r.to b) e where
+  go : (t : Bool) → then_some t r ≡ None → cond t (Some (route_links r)) further ≡ further
+  go false h = refl
+  go true h = cc
+
+pick_some : (a b : ℕ) (o : Option Route) (further : Option (List ℕ)) (y : Route) → chosen a b o ≡ Some y → pick o a b further ≡ Some (route_links y)
+pick_some a b None further y e = cc
+pick_some a b (Some r) further y e = go (eqb r.from a && eqb r.to b) e where
+  go : (t : Bool) → then_some t r ≡ Some y → cond t (Some (route_links r)) further ≡ Some (route_links y)
+  go false h = cc
+  go true h = ap (option_map route_links) h
+
+module _ (rs : List ℕ) (a b : ℕ) where
+  -- the record at a place, if it is of the pair
+  abbrev At : ℕ → Option Route
+  At k = chosen a b (route_at rs k)
+
+  seek_nothing : (k m : ℕ) → ((i : ℕ) → i < m → At (k + i) ≡ None) → seek rs a b k m ≡ None
+  seek_nothing k zero none = refl
+  seek_nothing k (suc m) none =
+      pick_none a b (route_at rs k) (seek rs a b (k + 1) m) (ap At (sym (add-zero k)) ∙ none 0 (omega arith))
+      ∙ seek_nothing (k + 1) m (λ i h. let e : k + 1 + i ≡ k + suc i = omega arith in ap At e ∙ none (suc i) (omega arith))
+
+  seek_first : (k m i : ℕ) (y : Route) → i < m → At (k + i) ≡ Some y → ((j : ℕ) → j < i → At (k + j) ≡ None) → seek rs a b k m ≡ Some (route_links y)
+  seek_first k zero i y h here none = absurd (omega arith)
+  seek_first k (suc m) zero y h here none = pick_some a b (route_at rs k) (seek rs a b (k + 1) m) y (ap At (sym (add-zero k)) ∙ here)
+  seek_first k (suc m) (suc i) y h here none =
+      let e : k + 1 + i ≡ k + suc i = omega arith in
+      pick_none a b (route_at rs k) (seek rs a b (k + 1) m) (ap At (sym (add-zero k)) ∙ none 0 (omega arith))
+      ∙ seek_first (k + 1) m i y (omega arith) (ap At e ∙ here) (λ j l. let f : k + 1 + j ≡ k + suc j = omega arith in ap At f ∙ none (suc j) (omega arith))
+
+  -- `find_map` over the places below n finds the same, where the closure answers the record of its place if it is of the pair
+  module _ {F : Type 0} (g : Mut F (ℕ × Unit {0}) (Option Route)) (f : F)
+      (calls : (k : ℕ) (v : Option Route) (q : F) → Called g f (k, tt) v q → (q ≡ f) × (v ≡ At k)) where
+    keeps : CallKeepsClosure g f
+    keeps i r q c = (calls i.0 r q c).0
+
+    answer_at : (o : Option ℕ) (k : ℕ) (v : Option Route) → option_map (λ y. y) o ≡ Some k → MatchOption o (Unit {0}) (λ x. Called g f (x, tt) v f) → At k ≡ v
+    answer_at None k v read call = cc
+    answer_at (Some x) k v read call = let same : x ≡ k = cc in ap At (sym same) ∙ sym (calls x v f call).1
+
+    given : (o : Option ℕ) (v : Option Route) → IsSomeAnd o (λ x. Called g f (x, tt) v f) → MatchOption o (Unit {0}) (λ x. Called g f (x, tt) v f)
+    given None v call = tt
+    given (Some x) v call = call
+
+    pub found_first : (n : ℕ) (s : Range ℕ) (r : Option Route) → s ≡ record { start = 0; end = n }
+        → SomeRun nat_range_steps s (λ p. MatchOption r (IsTrue p.whole × AllItemsGive p g f None) (λ y. (i : ℕ) × (i < p.len) × (p.len ≡ i + 1) × IsFirstToGive p g f (Some y) None i))
+        → option_map route_links r ≡ seek rs a b 0 n
+    found_first n s None is (p, from, all) =
+        let m = range_runs p p.seen in
+        let low : p.from.start ≡ 0 = ap (λ (k : Range ℕ). k.start) (from ∙ is) in
+        let high : p.from.end ≡ n = ap (λ (k : Range ℕ). k.end) (from ∙ is) in
+        sym (seek_nothing 0 n (λ k h.
+        let e : p.from.start + k ≡ 0 + k = omega arith in
+        answer_at (p.at k) (0 + k) None (m.3 k (omega (arith, m.1 all.0)) ∙ ap Some e) (all.1 keeps k)))
+    found_first n s (Some y) is (p, from, first) =
+        let m = range_runs p p.seen in
+        let low : p.from.start ≡ 0 = ap (λ (k : Range ℕ). k.start) (from ∙ is) in
+        let high : p.from.end ≡ n = ap (λ (k : Range ℕ). k.end) (from ∙ is) in
+        let i = first.0 in
+        let called = first.3 keeps in
+        let e : p.from.start + i ≡ 0 + i = omega arith in
+        sym (seek_first 0 n i y (omega (arith, m.0, first.1))
+        (answer_at (p.at i) (0 + i) (Some y) (m.3 i first.1 ∙ ap Some e) (given (p.at i) (Some y) called.0))
+        (λ j h. let e' : p.from.start + j ≡ 0 + j = omega arith in answer_at (p.at j) (0 + j) None (m.3 j (omega (arith, first.1)) ∙ ap Some e') (given (p.at j) None (called.1 j h))))
 
 -- a record that was read has twelve link numbers
 pub links_long : (rs : List ℕ) (k : ℕ) (r : Route) → route_at rs k ≡ Some r → length r.links ≡ 12

@@ -17,26 +17,26 @@ use Rattle.listed.specs.Setting.{either, first_fault, link_fault, record_fault, 
 
 module _ {E : Type 0} (f : ℕ → Option E) where
   -- one turn of a walk over n records
-  pub first_more : (k n : ℕ) → k < n → first_fault f k (n - k) ≡ either (f k) (first_fault f (k + 1) (n - (k + 1)))
+  first_more : (k n : ℕ) → k < n → first_fault f k (n - k) ≡ either (f k) (first_fault f (k + 1) (n - (k + 1)))
   first_more k n h = let e : n - k ≡ suc (n - (k + 1)) = omega arith in rw e
 
   -- a record with a fault ends the walk
-  pub first_here : (k n : ℕ) (e : E) → k < n → f k ≡ Some e → first_fault f k (n - k) ≡ Some e
+  first_here : (k n : ℕ) (e : E) → k < n → f k ≡ Some e → first_fault f k (n - k) ≡ Some e
   first_here k n e h here = first_more k n h ∙ ap (λ o. either o (first_fault f (k + 1) (n - (k + 1)))) here
 
   -- a record without a fault is passed
-  pub first_pass : (k n : ℕ) → k < n → f k ≡ None → first_fault f k (n - k) ≡ first_fault f (k + 1) (n - (k + 1))
+  first_pass : (k n : ℕ) → k < n → f k ≡ None → first_fault f k (n - k) ≡ first_fault f (k + 1) (n - (k + 1))
   first_pass k n h here = first_more k n h ∙ ap (λ o. either o (first_fault f (k + 1) (n - (k + 1)))) here
 
   -- a check of record k that refuses ends the walk with its fault
-  pub check_here : (k n : ℕ) (all : Option E) (e : E) → k < n → checked (f k) ≡ Err e → first_fault f k (n - k) ≡ all → Err e ≡ checked all
-  check_here k n all e h refuses was = ends (f k) refl refuses where
-    ends : (o : Option E) → f k ≡ o → checked o ≡ Err e → Err e ≡ checked all
+  check_here : (k n : ℕ) (e : E) → k < n → checked (f k) ≡ Err e → Err e ≡ checked (first_fault f k (n - k))
+  check_here k n e h refuses = ends (f k) refl refuses where
+    ends : (o : Option E) → f k ≡ o → checked o ≡ Err e → Err e ≡ checked (first_fault f k (n - k))
     ends None is r = let z : ◌≡◌ {A = ℕ} 0 1 = cc in absurd (omega arith)
-    ends (Some x) is r = sym r ∙ ap checked (sym (first_here k n x h is) ∙ was)
+    ends (Some x) is r = sym r ∙ ap checked (sym (first_here k n x h is))
 
   -- a check that passes leads on to the next
-  pub check_pass : (k n : ℕ) → k < n → checked (f k) ≡ Ok tt → first_fault f k (n - k) ≡ first_fault f (k + 1) (n - (k + 1))
+  check_pass : (k n : ℕ) → k < n → checked (f k) ≡ Ok tt → first_fault f k (n - k) ≡ first_fault f (k + 1) (n - (k + 1))
   check_pass k n h passes = on (f k) refl passes where
     on : (o : Option E) → f k ≡ o → checked o ≡ Ok tt → first_fault f k (n - k) ≡ first_fault f (k + 1) (n - (k + 1))
     on None is r = first_pass k n h is
@@ -48,7 +48,7 @@ module _ {E : Type 0} (f : ℕ → Option E) where
   front_none (Some x) p e = let z : ◌≡◌ {A = ℕ} 0 1 = cc in absurd (omega arith)
 
   -- where no fault was found, no record has one
-  pub first_none : (k m : ℕ) → first_fault f k m ≡ None → (i : ℕ) → i < m → f (k + i) ≡ None
+  first_none : (k m : ℕ) → first_fault f k m ≡ None → (i : ℕ) → i < m → f (k + i) ≡ None
   first_none k zero e i h = absurd (omega arith)
   first_none k (suc m) e zero h = ap f (add-zero k) ∙ (front_none (f k) (first_fault f (k + 1) m) e).0
   first_none k (suc m) e (suc i) h =
@@ -75,7 +75,7 @@ module _ {E F : Type 0} (fault : ℕ → Option E) (g : Mut F (ℕ × Unit {0}) 
       let more : s.start < s.end = omega (arith, ap (λ (k : Range ℕ). k.start) y, ap (λ (k : Range ℕ). k.end) y, n.1.0) in
       let call = (calls i m.0 m.1 (subst (λ (p : F). Called g p (i, tt) m.0 m.1) (sym c) m.3)).1 in
       let refuses : checked (fault s.start) ≡ Err m.2.0 = ap (λ k. checked (fault k)) (sym here) ∙ sym call ∙ m.4 in
-      residual r m.2.0 m.5 ∙ check_here fault s.start s.end _ m.2.0 more refuses refl
+      residual r m.2.0 m.5 ∙ check_here fault s.start s.end m.2.0 more refuses
   walked (i ∷ xs) o s t u j r y n c m =
       let next = y.1 in
       let turn = c.1 in

@@ -69,17 +69,14 @@ impl<'a> Fabric for Listed<'a> {
     }
 }
 
-// The record of the route from one node to another, by the places of the records, of which one is what its clause names.
+// The record of the route from one node to another, by the places of the records: a section gives them by no slice.
 fn find(routes: &Section<'_, Route>, from: usize, to: usize) -> Option<Route>
     ensures answer { option_map route_links result ≡ seek routes.now.bytes.now from to 0 (route_count routes.now.bytes.now) }
     ensures stands { IfSome result (Stands routes.now.bytes.now) }
 {
-    for k in 0..routes.count() {
-        if let Some(route) = routes.get(k) {
-            if route.from as usize == from && route.to as usize == to {
-                return Some(route);
-            }
-        }
-    }
-    None
+    (0..routes.count()).find_map(|k| {
+        routes
+            .get(k)
+            .filter(|r| r.from as usize == from && r.to as usize == to)
+    })
 }
