@@ -1,5 +1,5 @@
 -- The search for a route among the records, and what the found record answers. Assumes nothing.
-use Rattle.std.proofs.Common.{◌≡◌, ℕ, zero, suc, ◌+◌, ◌-◌, ◌/◌, ◌<◌, ◌≤◌, Bool, true, false, cond, ◌&&◌, eqb, ltb, List, length, get_or, Some, None, Option, refl, add-zero, sym, ap, ◌∙◌, subst, ⊎_elim, arith, length-take}
+use Rattle.std.proofs.Common.{◌≡◌, ℕ, zero, suc, ◌+◌, ◌/◌, ◌<◌, ◌≤◌, Bool, true, false, cond, ◌&&◌, eqb, ltb, List, length, get_or, Some, None, Option, refl, add-zero, sym, ap, ◌∙◌, subst, ⊎_elim, arith, length-take}
 use denote.Param.Members.{Mut}
 use Rattle.std.proofs.iter.Yields.{nat_range_steps}
 use Rattle.std.proofs.iter.runs.Sources.{range_runs}
@@ -18,21 +18,6 @@ use Rattle.records.specs.Sections.{record_bytes}
 use Rattle.listed.specs.Records.{route_count, route_at, route_prior, route_links, route_good, pick, seek, Stands, listed_route}
 use Rattle.listed.specs.Sound.{guarded, good_parts}
 
--- one record more of a search among t
-pub seek_more : (rs : List ℕ) (a b k t : ℕ) → k < t → seek rs a b k (t - k) ≡ pick (route_at rs k) a b (seek rs a b (k + 1) (t - (k + 1)))
-seek_more rs a b k t h = let e : t - k ≡ suc (t - (k + 1)) = omega arith in ap (seek rs a b k) e
-
--- nothing is left
-pub seek_none : (rs : List ℕ) (a b k t : ℕ) → t ≤ k → seek rs a b k (t - k) ≡ None
-seek_none rs a b k t h = let e : t - k ≡ 0 = omega arith in ap (seek rs a b k) e
-
--- a record of the pair ends the search
-pub seek_here : (rs : List ℕ) (a b k t : ℕ) (r : Route) → k < t → route_at rs k ≡ Some r → r.from ≡ a → r.to ≡ b → seek rs a b k (t - k) ≡ Some (route_links r)
-seek_here rs a b k t r h here p q =
-    seek_more rs a b k t h
-    ∙ ap (λ o. pick o a b (seek rs a b (k + 1) (t - (k + 1)))) here
-    ∙ cond-true _ _ _ (and_from _ _ (eq-eqb _ _ p) (eq-eqb _ _ q))
-
 -- the test of another pair fails
 other_pair : (x y a b : ℕ) → (x ≡ a → y ≡ b → ⊥) → (eqb x a && eqb y b) ≡ false
 other_pair x y a b other =
@@ -41,17 +26,16 @@ other_pair x y a b other =
     (λ (apart : x ≡ a → ⊥). and_left (eqb x a) (eqb y b) (ne_eqb x a apart))
     (cases_eq x a)
 
--- a record of another pair is passed
-pub seek_past : (rs : List ℕ) (a b k t : ℕ) (r : Route) → k < t → route_at rs k ≡ Some r → (r.from ≡ a → r.to ≡ b → ⊥) → seek rs a b k (t - k) ≡ seek rs a b (k + 1) (t - (k + 1))
-seek_past rs a b k t r h here other =
-    seek_more rs a b k t h
-    ∙ ap (λ o. pick o a b (seek rs a b (k + 1) (t - (k + 1)))) here
-    ∙ cond-false _ _ _ (other_pair r.from r.to a b other)
-
 -- a record, if it goes from node a to node b
 abbrev pub chosen : ℕ → ℕ → Option Route → Option Route
 chosen a b None = None
 chosen a b (Some r) = then_some (eqb r.from a && eqb r.to b) r
+
+pub chosen_here : (a b : ℕ) (r : Route) → r.from ≡ a → r.to ≡ b → chosen a b (Some r) ≡ Some r
+chosen_here a b r p q = ap (λ t. then_some t r) (and_from _ _ (eq-eqb _ _ p) (eq-eqb _ _ q))
+
+pub chosen_other : (a b : ℕ) (r : Route) → (r.from ≡ a → r.to ≡ b → ⊥) → chosen a b (Some r) ≡ None
+chosen_other a b r other = ap (λ t. then_some t r) (other_pair r.from r.to a b other)
 
 pick_none : (a b : ℕ) (o : Option Route) (further : Option (List ℕ)) → chosen a b o ≡ None → pick o a b further ≡ further
 pick_none a b None further e = refl
@@ -72,13 +56,15 @@ module _ (rs : List ℕ) (a b : ℕ) where
   abbrev At : ℕ → Option Route
   At k = chosen a b (route_at rs k)
 
-  seek_nothing : (k m : ℕ) → ((i : ℕ) → i < m → At (k + i) ≡ None) → seek rs a b k m ≡ None
+  -- no place has one
+  pub seek_nothing : (k m : ℕ) → ((i : ℕ) → i < m → At (k + i) ≡ None) → seek rs a b k m ≡ None
   seek_nothing k zero none = refl
   seek_nothing k (suc m) none =
       pick_none a b (route_at rs k) (seek rs a b (k + 1) m) (ap At (sym (add-zero k)) ∙ none 0 (omega arith))
       ∙ seek_nothing (k + 1) m (λ i h. let e : k + 1 + i ≡ k + suc i = omega arith in ap At e ∙ none (suc i) (omega arith))
 
-  seek_first : (k m i : ℕ) (y : Route) → i < m → At (k + i) ≡ Some y → ((j : ℕ) → j < i → At (k + j) ≡ None) → seek rs a b k m ≡ Some (route_links y)
+  -- the first place that has one
+  pub seek_first : (k m i : ℕ) (y : Route) → i < m → At (k + i) ≡ Some y → ((j : ℕ) → j < i → At (k + j) ≡ None) → seek rs a b k m ≡ Some (route_links y)
   seek_first k zero i y h here none = absurd (omega arith)
   seek_first k (suc m) zero y h here none = pick_some a b (route_at rs k) (seek rs a b (k + 1) m) y (ap At (sym (add-zero k)) ∙ here)
   seek_first k (suc m) (suc i) y h here none =

@@ -1,5 +1,5 @@
 -- The records of a listed fabric ascend, so each pair of nodes has one record at most; and what a file sets is of its records. Assumes nothing.
-use Rattle.std.proofs.Common.{◌≡◌, ℕ, zero, suc, ◌+◌, ◌-◌, ◌/◌, ◌<◌, true, false, cond, ◌&&◌, eqb, ltb, ◌⊎◌, List, [], length, Some, None, Ok, Err, Option, Result, sym, refl, ap, ◌∙◌, subst, inl, inr, ⊎_elim, arith}
+use Rattle.std.proofs.Common.{◌≡◌, ℕ, zero, suc, ◌+◌, ◌-◌, ◌/◌, ◌<◌, true, false, cond, ◌&&◌, eqb, ltb, ◌⊎◌, List, [], length, Some, None, Ok, Err, Option, Result, sym, refl, ap, ◌∙◌, subst, zero-add, inl, inr, ⊎_elim, arith}
 use Rattle.std.proofs.lemmas.Bool.{ltb-true, eqb-true, ne_eqb, and_parts, or_cases, cases_Bool, cond-true, cond-false}
 use Rattle.std.specs.Option.{option_map}
 use Rattle.records.specs.declared.record.Link.{Link}
@@ -10,7 +10,7 @@ use Rattle.listed.specs.Records.{link_at, route_count, route_at, route_prior, li
 use Rattle.listed.specs.Setting.{Setting, within, then, unless, listed_head, section_read, links_fault, routes_fault, routes_set, links_set, head_set}
 use Rattle.listed.specs.SetRecords.{OfRecords, SetRecords}
 use Rattle.listed.specs.Sound.{GoodParts, good_parts}
-use Rattle.listed.proofs.Finds.{seek_here, seek_past, seek_none, route_found}
+use Rattle.listed.proofs.Finds.{chosen, chosen_here, chosen_other, seek_first, seek_nothing, route_found}
 use Rattle.listed.proofs.Firsts.{links_good, routes_good}
 
 -- one pair of nodes comes before another: by from, then by to
@@ -78,34 +78,20 @@ module _ (n : ℕ) (ls rs : List ℕ)
       let e : j + 1 + (k - (j + 1)) ≡ k = omega arith in
       further (k - (j + 1)) j q r (omega arith) here (ap (route_at rs) e ∙ there)
 
-  -- the search passes the records before that of the pair
-  walk : (d j k : ℕ) (r : Route) → j + d ≡ k → k < route_count rs → route_at rs k ≡ Some r → seek rs r.from r.to j (route_count rs - j) ≡ Some (route_links r)
-  walk zero j k r e h here =
-      let same : j ≡ k = omega arith in
-      seek_here rs r.from r.to j (route_count rs) r (omega arith) (ap (route_at rs) same ∙ here) refl refl
-  walk (suc d) j k r e h here =
-      let (q, there, _) = at_place j (omega arith) in
-      seek_past rs r.from r.to j (route_count rs) q (omega arith) there (before_apart q r (ordered j k q r (omega arith) h there here))
-      ∙ walk d (j + 1) k r (omega arith) h here
-
-  -- the search for a record's pair finds the record
-  pub seek_found : (k : ℕ) (r : Route) → k < route_count rs → route_at rs k ≡ Some r → seek rs r.from r.to 0 (route_count rs) ≡ Some (route_links r)
+  -- the search for a record's pair finds the record: those before it are of other pairs
+  seek_found : (k : ℕ) (r : Route) → k < route_count rs → route_at rs k ≡ Some r → seek rs r.from r.to 0 (route_count rs) ≡ Some (route_links r)
   seek_found k r h here =
-      let whole : route_count rs ≡ route_count rs - 0 = omega arith in
-      ap (seek rs r.from r.to 0) whole ∙ walk k 0 k r (omega arith) h here
-
-  -- and all records where none is of the pair
-  miss : (d j a b : ℕ) → j + d ≡ route_count rs → ((k : ℕ) (r : Route) → route_at rs k ≡ Some r → r.from ≡ a → r.to ≡ b → ⊥) → seek rs a b j (route_count rs - j) ≡ None
-  miss zero j a b e absent = seek_none rs a b j (route_count rs) (omega arith)
-  miss (suc d) j a b e absent =
+      seek_first rs r.from r.to 0 (route_count rs) k r h (ap (λ i. chosen r.from r.to (route_at rs i)) (zero-add k) ∙ ap (chosen r.from r.to) here ∙ chosen_here r.from r.to r refl refl)
+      (λ j l.
       let (q, there, _) = at_place j (omega arith) in
-      seek_past rs a b j (route_count rs) q (omega arith) there (absent j q there) ∙ miss d (j + 1) a b (omega arith) absent
+      ap (λ i. chosen r.from r.to (route_at rs i)) (zero-add j) ∙ ap (chosen r.from r.to) there ∙ chosen_other r.from r.to q (before_apart q r (ordered j k q r l h there here)))
 
   -- the search for a pair without a record finds none
-  pub seek_absent : (a b : ℕ) → ((k : ℕ) (r : Route) → route_at rs k ≡ Some r → r.from ≡ a → r.to ≡ b → ⊥) → seek rs a b 0 (route_count rs) ≡ None
+  seek_absent : (a b : ℕ) → ((k : ℕ) (r : Route) → route_at rs k ≡ Some r → r.from ≡ a → r.to ≡ b → ⊥) → seek rs a b 0 (route_count rs) ≡ None
   seek_absent a b absent =
-      let whole : route_count rs ≡ route_count rs - 0 = omega arith in
-      ap (seek rs a b 0) whole ∙ miss (route_count rs) 0 a b (omega arith) absent
+      seek_nothing rs a b 0 (route_count rs) (λ j h.
+      let (q, there, _) = at_place j h in
+      ap (λ i. chosen a b (route_at rs i)) (zero-add j) ∙ ap (chosen a b) there ∙ chosen_other a b q (absent j q there))
 
   -- the route of a record's pair
   route_known : (k : ℕ) → k < route_count rs → (r : Route) × (route_at rs k ≡ Some r) × (listed_route n rs r.from r.to ≡ Some (route_links r))
