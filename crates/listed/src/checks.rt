@@ -38,7 +38,7 @@ fn below(numbers: &[u8], limit: usize) -> bool
     numbers.iter().all(|n| (*n as usize) < limit)
 }
 
-// Whether the numbers lead from one node to the other.
+// Whether the numbers, a route's twelve at most, lead from one node to the other.
 fn follows(links: &Section<'_, Link>, from: u8, numbers: &[u8], to: u8) -> bool
     ensures { result ≡ chain_good links.now.bytes.now from numbers.now to }
 {
