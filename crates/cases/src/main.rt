@@ -4,7 +4,7 @@
 
 ghost use Rattle.std.specs.Prelude.{◌<◌};
 
-use anyhow::anyhow;
+use anyhow::Context;
 use refusals::refusal::Refusal;
 use refusals::words::word;
 use std::alloc::{AllocError, Global};
@@ -21,13 +21,11 @@ fn digit(b: u8) -> u8
 
 // The bytes that the digits stand for, two digits to a byte.
 fn decode(heap: Global, text: &[u8]) -> Result<Vec<u8>, AllocError> {
-    let mut file = Vec::new(heap);
-    let mut rest = text;
-    while let [high, low, tail @ ..] = rest {
-        file.push(digit(*high) * 16 + digit(*low))?;
-        rest = tail;
-    }
-    Ok(file)
+    let (pairs, _) = text.as_chunks::<2>();
+    pairs
+        .iter()
+        .map(|[high, low]| digit(*high) * 16 + digit(*low))
+        .collect(heap)
 }
 
 fn show<W: Write>(heap: Global, out: &mut W, room: usize, text: &str) -> anyhow::Result<()> {
@@ -50,9 +48,10 @@ fn run(rt: &HostRuntime) -> anyhow::Result<()> {
     let mut out = rt.stdout();
     for line in BufReader::new(rt.alloc(), rt.stdin())?.lines(rt.alloc()) {
         let line = line?;
-        let Some((room, text)) = line.as_str().split_once(' ') else {
-            return Err(anyhow!("a line without a space"));
-        };
+        let (room, text) = line
+            .as_str()
+            .split_once(' ')
+            .context("a line without a space")?;
         show(rt.alloc(), &mut out, room.parse::<usize>()?, text)?;
     }
     Ok(())
