@@ -12,9 +12,7 @@ fn run(rt: &HostRuntime) -> anyhow::Result<()> {
     let mut file = Vec::new(rt.alloc());
     rt.stdin().take(MOST_READ).read_to_end(&mut file)?;
     let mut line = [0u8; LONGEST_LINE];
-    let Ok(end) = judge(&file, &mut line) else {
-        return Err(anyhow!("the buffer is too short"));
-    };
+    let end = judge(&file, &mut line).map_err(|_| anyhow!("the buffer is too short"))?;
     rt.stdout().write_all(&line[0..end])?;
     Ok(())
 }
