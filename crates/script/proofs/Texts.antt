@@ -1,11 +1,12 @@
 -- How the parts of a line are read, byte by byte. Assumes nothing.
-use Rattle.std.proofs.Common.{◌≡◌, ℕ, ◌+◌, ◌*◌, ◌%◌, ◌<◌, ◌≤◌, Bool, true, false, cond, not, ◌&&◌, ◌==◌, ltb, leb, ◌⊎◌, List, [], ◌∷◌, ◌++◌, length, get_or, take, drop, Some, None, Option, sym, refl, ap, ◌∙◌, inl, inr, arith, Bor, MatchOption}
+use Rattle.std.proofs.Common.{◌≡◌, ℕ, zero, suc, ◌+◌, ◌*◌, ◌/◌, ◌%◌, ◌<◌, ◌≤◌, Bool, true, false, cond, not, ◌&&◌, ◌==◌, ltb, leb, ◌⊎◌, List, [], ◌∷◌, ◌++◌, length, get_or, take, drop, Some, None, Option, sym, refl, ap, ◌∙◌, inl, inr, arith, Bor, MatchOption}
 use Rattle.std.proofs.lemmas.List.{at_drop_more, at_drop_all, append_assoc, append-nil}
 use Rattle.std.proofs.lemmas.Bool.Decides.{eqb_tells, leb_tells, nat_tests}
+use Rattle.std.specs.Simd.{first_chunks}
 use Rattle.std.specs.Str.Parse.{digits_value_after}
 use Rattle.std.specs.Option.{SomeIff}
 use Rattle.std.specs.List.{position, position_or_len}
-use Rattle.std.specs.Char.{digit_value, is_ascii_digit}
+use Rattle.std.specs.Char.{digit_value}
 use Rattle.std.specs.Str.{all_ascii_digits}
 use Rattle.script.specs.Fields.{after, field, number, pair, then, unhexed, word_length}
 
@@ -42,57 +43,21 @@ value_grows : (n : ℕ) (ds : List ℕ) → n ≤ digits_value_after 10 n ds
 value_grows n [] = omega arith
 value_grows n (d ∷ ds) = omega (arith, value_grows (n * 10 + digit_value d) ds)
 
--- a digit is below ten
-digit_true : (b : ℕ) → digit_value b < 10 → is_ascii_digit b ≡ true
-digit_true b h = grind (arith, nat_tests)
-
-digit_false : (b : ℕ) → 10 ≤ digit_value b → is_ascii_digit b ≡ false
-digit_false b h = grind (arith, nat_tests)
-
 and_false : (t : Bool) → (t && false) ≡ false
 and_false true = refl
 and_false false = refl
 
--- what is no digit ends the reading
-pub read_no_digit : (most n b : ℕ) (bs : List ℕ) → 10 ≤ digit_value b → read_on most n (b ∷ bs) ≡ None
-read_no_digit most n b bs h = rw (digit_false b h)
-
 -- a number that is too large stays so
-pub read_too_large : (most n b : ℕ) (bs : List ℕ) → most < n * 10 + digit_value b → read_on most n (b ∷ bs) ≡ None
+read_too_large : (most n b : ℕ) (bs : List ℕ) → most < n * 10 + digit_value b → read_on most n (b ∷ bs) ≡ None
 read_too_large most n b bs h =
     let large = value_grows (n * 10 + digit_value b) bs in
     elim (leb_tells (digits_value_after 10 (n * 10 + digit_value b) bs) most) [ inl p ↦ absurd (omega (arith, p.1)) | inr p ↦ rw (p.0, and_false) ]
 
--- a digit more
-pub read_more : (most n b : ℕ) (bs : List ℕ) → digit_value b < 10 → read_on most n (b ∷ bs) ≡ read_on most (n * 10 + digit_value b) bs
-read_more most n b bs h = rw (digit_true b h)
-
--- the end
-pub read_all : (most n : ℕ) → n ≤ most → read_on most n [] ≡ Some n
-read_all most n h = elim (leb_tells n most) [ inl p ↦ rw p.0 | inr p ↦ absurd (omega (arith, p.1)) ]
-
--- a reading that ends at a byte has no number
-none_at : (most n i : ℕ) (text : List ℕ) → i < length text → read_on most n (drop i text) ≡ read_on most 0 text → read_on most n (get_or text i 0 ∷ drop (i + 1) text) ≡ None → None ≡ number most text
-none_at most n i text h inv none =
-    sym none ∙ sym (at_drop_more (read_on most n) text i 0 h) ∙ inv ∙ number_is most text (omega arith)
-
-pub none_at_other : (most n i d : ℕ) (text : List ℕ) → i < length text → d ≡ digit_value (get_or text i 0) → 10 ≤ d → read_on most n (drop i text) ≡ read_on most 0 text → None ≡ number most text
-none_at_other most n i d text h is other inv =
-    none_at most n i text h inv (read_no_digit most n (get_or text i 0) (drop (i + 1) text) (rw is at other))
-
+-- a number that gets too large at a byte is none
 pub none_at_large : (most n i d : ℕ) (text : List ℕ) → i < length text → d ≡ digit_value (get_or text i 0) → most < n * 10 + d → read_on most n (drop i text) ≡ read_on most 0 text → None ≡ number most text
 none_at_large most n i d text h is large inv =
-    none_at most n i text h inv (read_too_large most n (get_or text i 0) (drop (i + 1) text) (rw is at large))
-
--- a digit more is read
-pub more_at : (most n i d : ℕ) (text : List ℕ) → i < length text → d ≡ digit_value (get_or text i 0) → d < 10 → read_on most n (drop i text) ≡ read_on most 0 text → read_on most (n * 10 + d) (drop (i + 1) text) ≡ read_on most 0 text
-more_at most n i d text h is small inv =
-    rw is (sym (read_more most n (get_or text i 0) (drop (i + 1) text) (rw is at small)) ∙ sym (at_drop_more (read_on most n) text i 0 h) ∙ inv)
-
--- the whole text is read
-pub some_at : (most n i : ℕ) (text : List ℕ) → 0 < length text → length text ≤ i → n ≤ most → read_on most n (drop i text) ≡ read_on most 0 text → Some n ≡ number most text
-some_at most n i text some h small inv =
-    sym (read_all most n small) ∙ sym (at_drop_all (read_on most n) text i h) ∙ inv ∙ number_is most text some
+    let none = read_too_large most n (get_or text i 0) (drop (i + 1) text) (rw is at large) in
+    sym none ∙ sym (at_drop_more (read_on most n) text i 0 h) ∙ inv ∙ number_is most text (omega arith)
 
 -- the first space ends the word
 word_is : (text : List ℕ) → position_or_len (λ b. b == 32) text ≡ word_length text
@@ -139,34 +104,50 @@ pub no_digit : (o : Option ℕ) (n radix v : ℕ) → SomeIff o (n < radix) v �
 no_digit None n radix v h e = omega (arith, h)
 no_digit (Some x) n radix v h e = let z : ◌≡◌ {A = ℕ} 0 1 = cc in absurd (omega arith)
 
--- two digits, and those after them
-two_first : {Y : Type 0} (F : List ℕ → Y) (rest : List ℕ) → 2 ≤ length rest → F rest ≡ F (get_or rest 0 0 ∷ (get_or rest 1 0 ∷ drop 2 rest))
-two_first F [] h = absurd (omega arith)
-two_first F (a ∷ []) h = absurd (omega arith)
-two_first F (a ∷ (b ∷ rest)) h = refl
+-- the bytes that pairs of digits write
+abbrev pub pairs_read : List (List ℕ) → Option (List ℕ)
+pairs_read [] = Some []
+pairs_read (p ∷ ps) = pair (get_or p 0 0) (get_or p 1 0) (pairs_read ps)
+
+-- the digits in pairs write the same bytes
+pub pairs_are : (k : ℕ) (text : List ℕ) → length text ≡ k * 2 → pairs_read (first_chunks 2 k text) ≡ unhexed text
+pairs_are zero [] h = refl
+pairs_are zero (a ∷ rest) h = absurd (omega (arith, h))
+pairs_are (suc k) [] h = absurd (omega (arith, h))
+pairs_are (suc k) (a ∷ []) h = absurd (omega (arith, h))
+pairs_are (suc k) (a ∷ (b ∷ rest)) h = ap (pair a b) (pairs_are k rest (omega (arith, h)))
+
+in_front_nothing : (rest : Option (List ℕ)) → in_front [] rest ≡ rest
+in_front_nothing None = refl
+in_front_nothing (Some bs) = refl
+
+pub pairs_start : (text bs : List ℕ) (ps : List (List ℕ)) → bs ≡ [] → ps ≡ first_chunks 2 (length text / 2) text → length text % 2 ≡ 0 → in_front bs (pairs_read ps) ≡ unhexed text
+pairs_start text bs ps none are even =
+    rw (none, are) (in_front_nothing (pairs_read (first_chunks 2 (length text / 2) text)) ∙ pairs_are (length text / 2) text (omega (arith, even)))
 
 -- what is no digit ends the reading
-pub unhexed_none : (rest bs : List ℕ) (all : Option (List ℕ)) → 2 ≤ length rest → (16 ≤ digit_value (get_or rest 0 0)) ⊎ (16 ≤ digit_value (get_or rest 1 0)) → in_front bs (unhexed rest) ≡ all → None ≡ all
-unhexed_none rest bs all h other inv =
-    let t : (ltb (digit_value (get_or rest 0 0)) 16 && ltb (digit_value (get_or rest 1 0)) 16) ≡ false = elim other [ inl p ↦ grind (arith, nat_tests) | inr p ↦ grind (arith, nat_tests) ] in
-    let e : in_front bs (unhexed rest) ≡ None = two_first (λ l. in_front bs (unhexed l)) rest h ∙ rw t in
-    sym e ∙ inv
+pub pairs_none : (ps : List (List ℕ)) (i : ℕ) (bs : List ℕ) (all : Option (List ℕ)) → i < length ps → (16 ≤ digit_value (get_or (get_or ps i []) 0 0)) ⊎ (16 ≤ digit_value (get_or (get_or ps i []) 1 0)) → in_front bs (pairs_read (drop i ps)) ≡ all → None ≡ all
+pairs_none ps i bs all h other inv =
+    let p = get_or ps i [] in
+    let t : (ltb (digit_value (get_or p 0 0)) 16 && ltb (digit_value (get_or p 1 0)) 16) ≡ false = elim other [ inl q ↦ grind (arith, nat_tests) | inr q ↦ grind (arith, nat_tests) ] in
+    let e : in_front bs (pairs_read (p ∷ drop (i + 1) ps)) ≡ None = rw t in
+    sym e ∙ sym (at_drop_more (λ l. in_front bs (pairs_read l)) ps i [] h) ∙ inv
 
 pushed_front : (bs : List ℕ) (x : ℕ) (rest : Option (List ℕ)) → in_front bs (then rest (λ more. Some (x ∷ more))) ≡ in_front (bs ++ (x ∷ [])) rest
 pushed_front bs x None = refl
 pushed_front bs x (Some more) = ap Some (sym (append_assoc bs (x ∷ []) more))
 
 -- a byte more is read
-pub unhexed_more : (rest bs more : List ℕ) (all : Option (List ℕ)) (a b : ℕ) → 2 ≤ length rest → a ≡ digit_value (get_or rest 0 0) → b ≡ digit_value (get_or rest 1 0) → a < 16 → b < 16 → more ≡ bs ++ ((a * 16 + b) ∷ []) → in_front bs (unhexed rest) ≡ all → in_front more (unhexed (drop 2 rest)) ≡ all
-unhexed_more rest bs more all a b h isa isb ha hb grown inv =
-    let t : (ltb (digit_value (get_or rest 0 0)) 16 && ltb (digit_value (get_or rest 1 0)) 16) ≡ true = rw (← isa, ← isb) (grind (arith, nat_tests)) in
-    let x = digit_value (get_or rest 0 0) * 16 + digit_value (get_or rest 1 0) in
-    let e : in_front bs (unhexed rest) ≡ in_front (bs ++ (x ∷ [])) (unhexed (drop 2 rest)) =
-    two_first (λ l. in_front bs (unhexed l)) rest h ∙ rw t (pushed_front bs x (unhexed (drop 2 rest))) in
-    rw (grown, isa, isb) (sym e ∙ inv)
+pub pairs_more : (ps : List (List ℕ)) (i : ℕ) (bs more : List ℕ) (all : Option (List ℕ)) (a b : ℕ) → i < length ps → a ≡ digit_value (get_or (get_or ps i []) 0 0) → b ≡ digit_value (get_or (get_or ps i []) 1 0) → a < 16 → b < 16 → more ≡ bs ++ ((a * 16 + b) ∷ []) → in_front bs (pairs_read (drop i ps)) ≡ all → in_front more (pairs_read (drop (i + 1) ps)) ≡ all
+pairs_more ps i bs more all a b h isa isb ha hb grown inv =
+    let p = get_or ps i [] in
+    let rest = pairs_read (drop (i + 1) ps) in
+    let t : (ltb (digit_value (get_or p 0 0)) 16 && ltb (digit_value (get_or p 1 0)) 16) ≡ true = rw (← isa, ← isb) (grind (arith, nat_tests)) in
+    let x = digit_value (get_or p 0 0) * 16 + digit_value (get_or p 1 0) in
+    let e : in_front bs (pairs_read (p ∷ drop (i + 1) ps)) ≡ in_front (bs ++ (x ∷ [])) rest = rw t (pushed_front bs x rest) in
+    rw (grown, isa, isb) (sym e ∙ sym (at_drop_more (λ l. in_front bs (pairs_read l)) ps i [] h) ∙ inv)
 
--- an even number of digits that is below two is none
-pub unhexed_all : (rest bs : List ℕ) (all : Option (List ℕ)) → length rest < 2 → length rest % 2 ≡ 0 → in_front bs (unhexed rest) ≡ all → Some bs ≡ all
-unhexed_all [] bs all h even inv = ap Some (sym (append-nil bs)) ∙ inv
-unhexed_all (a ∷ []) bs all h even inv = absurd (omega arith)
-unhexed_all (a ∷ (b ∷ rest)) bs all h even inv = absurd (omega arith)
+-- no pair is left
+pub pairs_end : (ps : List (List ℕ)) (i : ℕ) (bs : List ℕ) (all : Option (List ℕ)) → length ps ≤ i → in_front bs (pairs_read (drop i ps)) ≡ all → Some bs ≡ all
+pairs_end ps i bs all h inv =
+    ap Some (sym (append-nil bs)) ∙ sym (at_drop_all (λ l. in_front bs (pairs_read l)) ps i h) ∙ inv

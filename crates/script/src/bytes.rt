@@ -5,16 +5,17 @@ ghost use Rattle.std.specs.Prelude.{◌≡◌, IfOk};
 
 use std::alloc::{AllocError, Global};
 
-// The bytes that pairs of hexadecimal digits write.
+// The bytes that pairs of hexadecimal digits write. A loop, since a pair that is no byte ends it with `None`, and a push that
+// fails with an error.
 pub(crate) fn unhexed(heap: Global, text: &[u8]) -> Result<Option<Vec<u8>>, AllocError>
     ensures { IfOk result (λ bytes. owned bytes ≡ unhexed text.now) }
 {
-    if text.len() % 2 != 0 {
+    let (pairs, rest) = text.as_chunks::<2>();
+    if !rest.is_empty() {
         return Ok(None);
     }
     let mut bytes = Vec::new(heap);
-    let mut rest = text;
-    while let [high, low, tail @ ..] = rest {
+    for [high, low] in pairs {
         let (Some(high), Some(low)) = (
             char::from(*high).to_digit(16),
             char::from(*low).to_digit(16),
@@ -22,7 +23,6 @@ pub(crate) fn unhexed(heap: Global, text: &[u8]) -> Result<Option<Vec<u8>>, Allo
             return Ok(None);
         };
         bytes.push((high * 16 + low) as u8)?;
-        rest = tail;
     }
     Ok(Some(bytes))
 }
