@@ -7,10 +7,10 @@ use listed::Listed;
 use replay::calls::Answer;
 use script::fabrics::{listed_reply, mesh_reply};
 use script::line::Line;
-use script::reading::read_line;
+use script::reading::read_lines;
 use script::reply::Reply;
 use script::running::run_lines;
-use script::showing::show;
+use script::showing::tell_line;
 use std::alloc::{AllocError, Global};
 use std::io::{Read, Write};
 use std::vec::IntoIter;
@@ -21,14 +21,6 @@ fn split(heap: Global, text: &[u8]) -> Result<Vec<&[u8]>, AllocError> {
         .unwrap_or(text)
         .split(|b| *b == b'\n')
         .collect(heap)
-}
-
-fn read_all(heap: Global, texts: &[&[u8]]) -> Result<Vec<Line>, AllocError> {
-    let mut lines = Vec::new(heap);
-    for text in texts {
-        lines.push(read_line(heap, text)?)?;
-    }
-    Ok(lines)
 }
 
 // Whether a line is a fabric that is taken, so that a new plan begins.
@@ -57,7 +49,8 @@ fn answers_of(heap: Global, lines: &[Line]) -> Result<Vec<Answer>, AllocError> {
     run_lines(heap, &fabric, lines)
 }
 
-// Adds each line that is not blank, with what it is answered. The texts go on with those of these lines.
+// Adds each line that is not blank, with what it is answered. The texts go on with those of these lines: they are borrowed, and
+// printed as they came, which a `Line` does not keep.
 fn print_lines(
     heap: Global,
     out: &mut Vec<u8>,
@@ -75,10 +68,7 @@ fn print_lines(
                 answers.next().context("a call without an answer")?,
             ),
         };
-        out.extend_from_slice(text)?;
-        out.extend_from_slice(b": ")?;
-        out.extend_from_slice(&show(heap, &reply)?)?;
-        out.push(b'\n')?;
+        tell_line(heap, out, text, &reply)?;
     }
     Ok(())
 }
@@ -86,7 +76,7 @@ fn print_lines(
 // The script with the answers: the lines between two taken fabrics are run as one list.
 fn transcript(heap: Global, text: &[u8]) -> anyhow::Result<Vec<u8>> {
     let texts = split(heap, text)?;
-    let lines = read_all(heap, &texts)?;
+    let lines = read_lines(heap, &texts)?;
     let mut texts = texts.into_iter();
     let mut out = Vec::new(heap);
     for part in lines.chunk_by(|_, next| !begins(next)) {

@@ -9,4 +9,6 @@ pub mod reading;
 pub mod reply;
 pub mod running;
 pub mod showing;
+#[cfg(test)]
+mod tests;
 mod text;

@@ -2,7 +2,7 @@
 ghost use Rattle.script.specs.Forms.{asked_of};
 ghost use Rattle.script.specs.Lines.{CallsReadBack, ListedReadBack, MeshesReadBack};
 ghost use Rattle.script.specs.Readings.{call_line, read_line, said, text_line};
-ghost use Rattle.std.specs.Prelude.{◌≡◌, IfOk};
+ghost use Rattle.std.specs.Prelude.{◌≡◌, map, IfOk};
 
 use crate::bytes::unhexed;
 use crate::forms::{
@@ -73,6 +73,18 @@ pub fn read_line(heap: Global, text: &[u8]) -> Result<Line, AllocError>
         [] | [b'#', ..] => Ok(Line::Blank),
         _ => read_text(heap, text),
     }
+}
+
+// What each text says. Tried as a `map` with `try_collect`: the proof didn't close, since a line that is read is told by what
+// it says alone.
+pub fn read_lines(heap: Global, texts: &[&[u8]]) -> Result<Vec<Line>, AllocError>
+    ensures { IfOk result (λ v. map said v.items ≡ map (λ text. read_line text.now) texts.now) }
+{
+    let mut lines = Vec::new(heap);
+    for text in texts {
+        lines.push(read_line(heap, text)?)?;
+    }
+    Ok(lines)
 }
 
 // The own line of every call and fabric reads back as that call or fabric.

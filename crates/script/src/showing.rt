@@ -1,6 +1,6 @@
 // Showing a reply as text.
 ghost use Rattle.script.specs.Replies.{ToldAsVerdicts, answer_text, reply_text};
-ghost use Rattle.std.specs.Prelude.{◌≡◌, Some, IfOk};
+ghost use Rattle.std.specs.Prelude.{◌≡◌, ◌++◌, codes, Some, IfOk, OnOk};
 
 use crate::reply::Reply;
 use refusals::refusal::{Refusal, Told};
@@ -32,6 +32,7 @@ impl fmt::Display for Shown<'_> {
             Answer::Loaded(Err(fault)) => write!(f, "{}", Told::from(fault)),
             Answer::Slack(Ok(least)) => write!(f, "SLACK {least}"),
             Answer::Slack(Err(fault)) => write!(f, "{}", Refusal::from(fault)),
+            // the pair is the plan's answer as it came: a type for it would be taken apart here alone
             Answer::Holder(Ok(Some((name, run)))) => write!(f, "HELD {name} {run}"),
             Answer::Holder(Ok(None)) => write!(f, "FREE"),
             Answer::Holder(Err(fault)) => write!(f, "{}", Refusal::from(fault)),
@@ -58,6 +59,22 @@ pub fn show(heap: Global, reply: &Reply) -> Result<Vec<u8>, AllocError>
     ensures { IfOk result (λ v. v.items ≡ reply_text reply.now) }
 {
     Ok(format!(in heap; "{reply}")?.into_bytes())
+}
+
+// Adds a line of text with its reply.
+pub fn tell_line(
+    heap: Global,
+    out: &mut Vec<u8>,
+    text: &[u8],
+    reply: &Reply,
+) -> Result<(), AllocError>
+    ensures { OnOk result (out.new.items ≡ out.old.items ++ (text.now ++ (codes ": " ++ (reply_text reply.now ++ codes "\n")))) }
+{
+    out.extend_from_slice(text)?;
+    out.extend_from_slice(b": ")?;
+    out.extend_from_slice(&show(heap, reply)?)?;
+    out.push(b'\n')?;
+    Ok(())
 }
 
 // A refused load or listed fabric is shown as a verdict line tells it.

@@ -1,0 +1,34 @@
+use crate::line::Line;
+use crate::reading::read_lines;
+use crate::reply::Reply;
+use crate::showing::tell_line;
+use replay::calls::Call;
+use std::alloc::AllocError;
+
+#[test]
+fn lines_read(rt: HostRuntime) -> Result<(), AllocError> {
+    let texts = [b"# a remark".as_slice(), b"slack 7", b"slack", b""];
+    let lines = read_lines(rt.alloc(), &texts)?;
+    assert_eq!(rt; lines.len(), 4);
+    assert!(rt; matches!(lines[0], Line::Blank));
+    assert!(rt; matches!(lines[1], Line::Plain(Call::Slack(7))));
+    assert!(rt; matches!(lines[2], Line::Unread));
+    assert!(rt; matches!(lines[3], Line::Blank));
+    Ok(())
+}
+
+#[test]
+fn line_told(rt: HostRuntime) -> Result<(), AllocError> {
+    let mut out = Vec::new(rt.alloc());
+    tell_line(rt.alloc(), &mut out, b"twelve", &Reply::Unread)?;
+    let ready = Reply::Ready {
+        nodes: 6,
+        links: 14,
+    };
+    tell_line(rt.alloc(), &mut out, b"fabric mesh 3 2 1", &ready)?;
+    assert_eq!(rt;
+        out.as_slice(),
+        b"twelve: UNREAD\nfabric mesh 3 2 1: READY 6 14\n".as_slice()
+    );
+    Ok(())
+}
