@@ -1,4 +1,4 @@
-// What stands after the first words of a line, form by form.
+// What stands after the first words of a line, form by form. The fields are read one by one, since each has its own type.
 ghost use Rattle.script.specs.Forms.{asked_of, drop_message, drop_task, holder_core, holder_link, mesh, offer_message, offer_task, place_message, place_task, slack_of};
 ghost use Rattle.std.specs.Prelude.{◌≡◌};
 

@@ -6,7 +6,7 @@ use replay::calls::Answer;
 pub enum Reply {
     // no line of the language
     Unread,
-    // a fabric with so many nodes and link numbers, and a new plan over it
+    // a fabric with so many nodes and link numbers, and a new plan over it; a type of both would stand here alone
     Ready { nodes: usize, links: usize },
     // a refused mesh
     Refused(Refusal),

@@ -11,7 +11,8 @@ use replay::calls::{Answer, Call};
 use replay::replay;
 use std::alloc::{AllocError, Global};
 
-// The calls of lines, in their order.
+// The calls of lines, in their order. Tried as a `filter_map`: the proof didn't close, since the bytes of a load are borrowed
+// and a call is no function of its line.
 fn calls_of(heap: Global, lines: &[Line]) -> Result<Vec<Call<'_>>, AllocError>
     ensures { IfOk result (λ v. map asked v.items ≡ asks (map said lines.now)) }
 {

@@ -10,7 +10,7 @@ pub(crate) fn after<'a>(front: &[u8], text: &'a [u8]) -> Option<&'a [u8]>
     text.strip_prefix(front)
 }
 
-// A type of numbers that a field may have.
+// A type of numbers that a field may have. std has no trait with the largest value of each such type.
 pub(crate) trait Unsigned: Sized {
     const MOST: u64;
 
