@@ -75,8 +75,7 @@ pub fn read_line(heap: Global, text: &[u8]) -> Result<Line, AllocError>
     }
 }
 
-// What each text says. Tried as a `map` with `try_collect`: the proof didn't close, since a line that is read is told by what
-// it says alone.
+// What each text says. Tried as a `map` with `try_collect`: the proof didn't close, since std has no lemma on what that gives.
 pub fn read_lines(heap: Global, texts: &[&[u8]]) -> Result<Vec<Line>, AllocError>
     ensures { IfOk result (λ v. map said v.items ≡ map (λ text. read_line text.now) texts.now) }
 {
