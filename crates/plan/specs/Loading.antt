@@ -4,6 +4,7 @@ use Rattle.records.specs.Forms.{task_of, message_of}
 use Rattle.records.specs.Sections.{cut_of, section_records}
 use Rattle.records.specs.declared.record.Task.{Task}
 use Rattle.records.specs.declared.record.Message.{Message}
+use Rattle.refusals.specs.declared.refusal.Counts.{Counts}
 use Rattle.jobs.specs.Jobs.{Setting, Jobs, with_task, with_message}
 use Rattle.jobs.specs.Rules.{task_refusal, message_refusal}
 use Rattle.jobs.specs.declared.fault.TaskFault.{TaskFault}
@@ -60,18 +61,18 @@ load_messages g = in_turn (message_refusal g) with_message
 
 -- ---- the load
 
-abbrev pub past_messages : ℕ → ℕ → Result (Unit {0}) (ℕ × MessageFault) → Result (ℕ × ℕ) LoadFault
+abbrev pub past_messages : ℕ → ℕ → Result (Unit {0}) (ℕ × MessageFault) → Result Counts LoadFault
 past_messages t m (Err e) = Err (load_fault.Message e.0 e.1)
-past_messages t m (Ok u) = Ok (t, m)
+past_messages t m (Ok u) = Ok (record { tasks = t; messages = m })
 
-abbrev pub past_tasks : Setting → List Task → List Message → Result (Unit {0}) (ℕ × TaskFault) → Jobs → Result (ℕ × ℕ) LoadFault × Jobs
+abbrev pub past_tasks : Setting → List Task → List Message → Result (Unit {0}) (ℕ × TaskFault) → Jobs → Result Counts LoadFault × Jobs
 past_tasks g ts ms (Err e) js = (Err (load_fault.Task e.0 e.1), js)
 past_tasks g ts ms (Ok u) js = (past_messages (length ts) (length ms) (load_messages g js 0 ms).0, (load_messages g js 0 ms).1)
 
-abbrev pub loaded : Setting → Jobs → Result (List Task × List Message) LayoutFault → Result (ℕ × ℕ) LoadFault × Jobs
+abbrev pub loaded : Setting → Jobs → Result (List Task × List Message) LayoutFault → Result Counts LoadFault × Jobs
 loaded g js (Err e) = (Err (load_fault.Layout e), js)
 loaded g js (Ok p) = past_tasks g p.0 p.1 (load_tasks g js 0 p.0).0 (load_tasks g js 0 p.0).1
 
 -- what a load answers, how many tasks and messages it took, and what is held after it
-abbrev pub load : Setting → Jobs → List ℕ → Result (ℕ × ℕ) LoadFault × Jobs
+abbrev pub load : Setting → Jobs → List ℕ → Result Counts LoadFault × Jobs
 load g js bytes = loaded g js (job_part bytes)

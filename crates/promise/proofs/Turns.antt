@@ -7,6 +7,7 @@ use Rattle.records.specs.declared.record.Task.{Task}
 use Rattle.records.specs.declared.record.Message.{Message}
 use Rattle.jobs.specs.Jobs.{Jobs, Setting, message_name, nothing, task_name, with_message, with_task}
 use Rattle.jobs.specs.Rules.{message_refusal, offered, task_refusal}
+use Rattle.plan.specs.Held.{counts_of}
 use Rattle.plan.specs.Loading.{in_turn, load_messages, load_tasks, loaded, on_taken, past_messages, past_tasks}
 use Rattle.promise.specs.Canonical.{Canonical}
 use Rattle.promise.specs.Clean.{Clean, Distinct, In, MessageMade}
@@ -188,7 +189,7 @@ module _ (g : Setting) (js : Jobs) (clean : Clean g js) (here : Canonical js) wh
         [] js.messages 0 refl
 
     -- a load of them takes them all
-    pub all_taken : loaded g nothing (Ok (js.tasks, js.messages)) ≡ (Ok (length js.tasks, length js.messages), js)
+    pub all_taken : loaded g nothing (Ok (js.tasks, js.messages)) ≡ (Ok (counts_of js), js)
     all_taken =
         ap (λ r. past_tasks g js.tasks js.messages r.0 r.1) tasks_taken
         ∙ ap (λ r. (past_messages (length js.tasks) (length js.messages) r.0, r.1)) messages_taken

@@ -10,6 +10,7 @@ use Rattle.records.specs.Named.{ascends}
 use Rattle.records.specs.declared.record.Task.{Task}
 use Rattle.records.specs.declared.record.Message.{Message}
 use Rattle.jobs.specs.Jobs.{Jobs, Setting, message_name, nothing, task_name}
+use Rattle.plan.specs.Held.{counts_of}
 use Rattle.plan.specs.Loading.{load}
 use Rattle.plan.specs.Writing.{part_bytes}
 use Rattle.promise.specs.Clean.{Clean, In}
@@ -30,7 +31,7 @@ pub record ShortNames (js : Jobs) : Type 0 where
 abbrev pub RoundTrip : Type 0
 RoundTrip =
     (g : Setting) (longest : ℕ) → longest ≤ 64 → Lawful longest g.network → (js : Jobs) → Clean g js → Canonical js → ShortNames js
-    → load g nothing (part_bytes js) ≡ (Ok (length js.tasks, length js.messages), js)
+    → load g nothing (part_bytes js) ≡ (Ok (counts_of js), js)
 
 -- the same tasks and the same messages are held
 pub record SameMembers (a b : Jobs) : Type 0 where

@@ -4,6 +4,7 @@ use Rattle.std.specs.Prelude.{ℕ, List, [], ◌++◌, Ok, Err, Result, codes, d
 use Rattle.std.specs.Fmt.{signed_decimal}
 use Rattle.refusals.specs.Words.{word_of}
 use Rattle.refusals.specs.declared.refusal.BufferFault.{BufferFault}
+use Rattle.refusals.specs.declared.refusal.Counts.{Counts}
 use Rattle.refusals.specs.declared.refusal.Detail.{Detail}
 use Rattle.refusals.specs.declared.refusal.Detail.TheVariants.{Plain, Slack, Meeting}
 use Rattle.refusals.specs.declared.refusal.Refusal.{Refusal}
@@ -26,8 +27,8 @@ told_text t =
     ++ detail_text t.refusal.detail
 
 -- the bytes of the line of a verdict: the counts of tasks and messages, or what is refused
-abbrev pub line_of : Result (ℕ × ℕ) Told → List ℕ
-line_of (Ok counts) = codes "CLEAR " ++ decimal counts.0 ++ codes " " ++ decimal counts.1 ++ codes "\n"
+abbrev pub line_of : Result Counts Told → List ℕ
+line_of (Ok counts) = codes "CLEAR " ++ decimal counts.tasks ++ codes " " ++ decimal counts.messages ++ codes "\n"
 line_of (Err told) =
     codes "REFUSED " ++ decimal told.section ++ codes " " ++ decimal told.«record» ++ codes " " ++ decimal told.refusal.number ++ codes " " ++ word_of told.refusal.number
     ++ detail_text told.refusal.detail ++ codes "\n"

@@ -4,22 +4,22 @@ ghost use Rattle.refusals.specs.Lines.{line_of, detail_text, too_short};
 ghost use Rattle.refusals.specs.Written.{Puts, written};
 
 use crate::pen::Pen;
-use crate::refusal::{BufferFault, Detail, Told};
+use crate::refusal::{BufferFault, Counts, Detail, Told};
 use crate::words::word;
 
 // No line is longer, so a buffer of this length takes any.
 pub const LONGEST_LINE: usize = 64;
 
 impl Pen<'_> {
-    fn put_clear(&mut self, tasks: usize, messages: usize)
+    fn put_clear(&mut self, counts: Counts)
         requires { self.old.at + 64 ≤ length self.old.out.now }
-        ensures puts { Puts self.old self.new (line_of (Ok (tasks, messages))) }
+        ensures puts { Puts self.old self.new (line_of (Ok counts)) }
         ensures bound { self.new.at ≤ self.old.at + 64 }
     {
         self.put(b"CLEAR ");
-        self.put_number(tasks);
+        self.put_number(counts.tasks);
         self.put(b" ");
-        self.put_number(messages);
+        self.put_number(counts.messages);
         self.put(b"\n");
     }
 
@@ -65,10 +65,7 @@ impl Pen<'_> {
 
 // Writes the line of a verdict, the counts of tasks and messages or what is refused, to the start of the buffer and answers its
 // length; bytes beyond it stay.
-pub fn write_line(
-    out: &mut [u8],
-    verdict: Result<(usize, usize), Told>,
-) -> Result<usize, BufferFault>
+pub fn write_line(out: &mut [u8], verdict: Result<Counts, Told>) -> Result<usize, BufferFault>
     ensures answer { result ≡ (if nat_lt (length out.old) 64 then Err too_short else Ok (length (line_of verdict))) }
     ensures buffer { out.new ≡ (if nat_lt (length out.old) 64 then out.old else written out.old 0 (line_of verdict)) }
     ensures bound { IfOk result (λ n. n ≤ 64) }
@@ -78,7 +75,7 @@ pub fn write_line(
     }
     let mut pen = Pen { out, at: 0 };
     match verdict {
-        Ok((tasks, messages)) => pen.put_clear(tasks, messages),
+        Ok(counts) => pen.put_clear(counts),
         Err(told) => pen.put_refused(told),
     }
     Ok(pen.at)
@@ -89,10 +86,17 @@ mod tests {
     use super::*;
     use crate::refusal::{Meeting, Refusal};
 
+    fn two_one() -> Result<Counts, Told> {
+        Ok(Counts {
+            tasks: 2,
+            messages: 1,
+        })
+    }
+
     #[test]
     fn lines(rt: HostRuntime) {
         let mut out = [7u8; 64];
-        assert_eq!(rt; write_line(&mut out, Ok((2, 1))), Ok(10));
+        assert_eq!(rt; write_line(&mut out, two_one()), Ok(10));
         assert_eq!(rt; &out[0..10], b"CLEAR 2 1\n".as_slice());
         assert_eq!(rt; &out[10..64], [7u8; 54].as_slice());
         let late = Err(Told {
@@ -132,7 +136,7 @@ mod tests {
     #[test]
     fn short_buffer(rt: HostRuntime) {
         let mut out = [7u8; 63];
-        assert_eq!(rt; write_line(&mut out, Ok((2, 1))), Err(BufferFault));
+        assert_eq!(rt; write_line(&mut out, two_one()), Err(BufferFault));
         assert_eq!(rt; out.as_slice(), [7u8; 63].as_slice());
     }
 }

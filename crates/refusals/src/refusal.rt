@@ -13,6 +13,13 @@ pub struct Meeting {
     pub place: u16,
 }
 
+// How many tasks and messages a file or a load has, all of them taken.
+#[derive(Clone, Copy, PartialEq, Eq, Debug)]
+pub struct Counts {
+    pub tasks: usize,
+    pub messages: usize,
+}
+
 // What stands after the word: nothing, the least slack, or where a meeting is.
 #[derive(Clone, Copy, PartialEq, Eq, Debug)]
 pub enum Detail {

@@ -8,6 +8,7 @@ use Rattle.std.specs.List.{slice_get}
 use Rattle.fabric.specs.Network.{Lawful}
 use Rattle.records.specs.declared.record.Task.{Task}
 use Rattle.records.specs.declared.record.Message.{Message}
+use Rattle.refusals.specs.declared.refusal.Counts.{Counts}
 use Rattle.jobs.specs.declared.fault.TaskFault.{TaskFault}
 use Rattle.jobs.specs.declared.fault.MessageFault.{MessageFault}
 use Rattle.jobs.specs.declared.fault.DropFault.{DropFault}
@@ -19,6 +20,7 @@ use Rattle.jobs.specs.declared.open.OpenMessage.{OpenMessage}
 use Rattle.jobs.specs.Jobs.{Jobs, Setting, nothing}
 use Rattle.jobs.specs.Open.{message_at, task_at}
 use Rattle.jobs.specs.Rules.{offer_message, offer_task}
+use Rattle.plan.specs.Held.{counts_of}
 use Rattle.plan.specs.Loading.{job_part, load, load_tasks}
 use Rattle.plan.specs.Writing.{part_bytes}
 use Rattle.plan.specs.declared.fault.LayoutFault.{LayoutFault}
@@ -73,9 +75,9 @@ Taken (message_try js m r) = r ≡ Ok tt
 
 -- what a load answers, by the offers that it tries and what its bytes read as: all records were offered and taken, and are counted; or
 -- its layout is at fault; or the offer of the record that is named was refused for this
-abbrev pub PartTold : List Try → Result (List Task × List Message) LayoutFault → Result (ℕ × ℕ) LoadFault → Type 0
+abbrev pub PartTold : List Try → Result (List Task × List Message) LayoutFault → Result Counts LoadFault → Type 0
 PartTold ys part (Ok n) =
-    (ts : List Task) × (ms : List Message) × (part ≡ Ok (ts, ms)) × (n.0 ≡ length ts) × (n.1 ≡ length ms)
+    (ts : List Task) × (ms : List Message) × (part ≡ Ok (ts, ms)) × (n.tasks ≡ length ts) × (n.messages ≡ length ms)
     × (length ys ≡ length ts + length ms) × ((x : Try) → In x ys → Taken x)
 PartTold ys part (Err (load_fault.Layout e)) = part ≡ Err e
 PartTold ys part (Err (load_fault.Task k e)) = (before : Jobs) × (t : Task) × (slice_get ys k ≡ Some (task_try before t (Err e)))
@@ -83,7 +85,7 @@ PartTold ys part (Err (load_fault.Message k e)) =
     (ts : List Task) × (ms : List Message) × (before : Jobs) × (m : Message)
     × (part ≡ Ok (ts, ms)) × (slice_get ys (length ts + k) ≡ Some (message_try before m (Err e)))
 
-abbrev pub LoadTold : Setting → Jobs → List ℕ → Result (ℕ × ℕ) LoadFault → Type 0
+abbrev pub LoadTold : Setting → Jobs → List ℕ → Result Counts LoadFault → Type 0
 LoadTold g js part = PartTold (load_tries g js part) (job_part part)
 
 -- ---- answers
@@ -110,7 +112,7 @@ Told g js (placing_task t) r = (x : Result ℕ (PlacingFault TaskFault)) × (r �
 Told g js (placing_message m) r = (x : Result ℕ (PlacingFault MessageFault)) × (r ≡ answer.MessagePlaced x) × MessagePlacing g js m x
 Told g js (dropping_task n) r = (x : Result (Unit {0}) DropFault) × (r ≡ answer.Dropped x) × TaskDropped js n x
 Told g js (dropping_message n) r = (x : Result (Unit {0}) DropFault) × (r ≡ answer.Dropped x) × MessageDropped js n x
-Told g js (loading part) r = (x : Result (ℕ × ℕ) LoadFault) × (r ≡ answer.Loaded x) × LoadTold g js part x × ((y : Try) → In y (load_tries g js part) → Exact g y)
+Told g js (loading part) r = (x : Result Counts LoadFault) × (r ≡ answer.Loaded x) × LoadTold g js part x × ((y : Try) → In y (load_tries g js part) → Exact g y)
 Told g js (asking_slack n) r = (x : Result ℤ DropFault) × (r ≡ answer.Slack x) × SlackTold g js n x
 Told g js (asking_core c n) r = (x : Result (Option (ℕ × ℕ)) PlaceFault) × (r ≡ answer.Holder x) × Holds (CoreTold js c n) g.network.nodes c x
 Told g js (asking_link l n) r = (x : Result (Option (ℕ × ℕ)) PlaceFault) × (r ≡ answer.Holder x) × Holds (LinkTold g js l n) g.network.links l x
@@ -144,7 +146,7 @@ After g js (asking_link l n) r after = after ≡ js
 -- the job part of the held jobs, where their names fit in two bytes, loaded into a new plan over the same network, is taken whole and
 -- gives the same jobs
 abbrev pub LoadsBack : Setting → Jobs → Type 0
-LoadsBack g js = ShortNames js → load g nothing (part_bytes js) ≡ (Ok (length js.tasks, length js.messages), js)
+LoadsBack g js = ShortNames js → load g nothing (part_bytes js) ≡ (Ok (counts_of js), js)
 
 -- after the list the plan is clean, for all of time, its names ascend and its numbers are kept; each call of the list is answered as
 -- promised, with the jobs that the calls before it leave held, and leaves held what its answer says; the job part of what is held loads back; and lists that leave the same members held have the same job part

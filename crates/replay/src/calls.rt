@@ -3,6 +3,7 @@ use jobs::fault::{DropFault, MessageFault, PlaceFault, PlacingFault, TaskFault};
 use jobs::open::{OpenMessage, OpenTask};
 use plan::fault::LoadFault;
 use records::record::{Message, Task};
+use refusals::refusal::Counts;
 
 #[derive(Clone, Copy)]
 pub enum Call<'a> {
@@ -31,7 +32,7 @@ pub enum Answer {
     MessagePlaced(Result<u32, PlacingFault<MessageFault>>),
     Dropped(Result<(), DropFault>),
     // how many tasks and messages were taken
-    Loaded(Result<(usize, usize), LoadFault>),
+    Loaded(Result<Counts, LoadFault>),
     Slack(Result<i64, DropFault>),
     // the name and the run
     Holder(Result<Option<(u16, u64)>, PlaceFault>),

@@ -39,7 +39,7 @@ answer_text (answer.MessageOffered r) = either (λ _. codes "TAKEN") (λ e. refu
 answer_text (answer.TaskPlaced r) = either (λ phase. codes "PLACED " ++ decimal phase) (λ e. refused_text (placing_told task_told e)) r
 answer_text (answer.MessagePlaced r) = either (λ delay. codes "PLACED " ++ decimal delay) (λ e. refused_text (placing_told message_told e)) r
 answer_text (answer.Dropped r) = either (λ _. codes "DROPPED") (λ e. refused_text (drop_told e)) r
-answer_text (answer.Loaded r) = either (λ p. two (codes "LOADED ") p.0 p.1) (λ e. told_text (load_told e)) r
+answer_text (answer.Loaded r) = either (λ counts. two (codes "LOADED ") counts.tasks counts.messages) (λ e. told_text (load_told e)) r
 answer_text (answer.Slack r) = either (λ least. codes "SLACK " ++ signed_decimal least) (λ e. refused_text (drop_told e)) r
 answer_text (answer.Holder r) = holder_text r
 

@@ -28,7 +28,7 @@ impl fmt::Display for Shown<'_> {
             Answer::MessagePlaced(Err(fault)) => write!(f, "{}", Refusal::from(fault)),
             Answer::Dropped(Ok(())) => write!(f, "DROPPED"),
             Answer::Dropped(Err(fault)) => write!(f, "{}", Refusal::from(fault)),
-            Answer::Loaded(Ok((tasks, messages))) => write!(f, "LOADED {tasks} {messages}"),
+            Answer::Loaded(Ok(counts)) => write!(f, "LOADED {} {}", counts.tasks, counts.messages),
             Answer::Loaded(Err(fault)) => write!(f, "{}", Told::from(fault)),
             Answer::Slack(Ok(least)) => write!(f, "SLACK {least}"),
             Answer::Slack(Err(fault)) => write!(f, "{}", Refusal::from(fault)),

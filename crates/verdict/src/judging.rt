@@ -14,13 +14,13 @@ use plan::Plan;
 use records::head::{FabricKind, Head, HeadFault, read_head};
 use records::record::{Link, Route};
 use refusals::line::{LONGEST_LINE, write_line};
-use refusals::refusal::{BufferFault, Told};
+use refusals::refusal::{BufferFault, Counts, Told};
 
 // No plan file is longer.
 const LONGEST_FILE: usize = 8192;
 
 // How many tasks and messages a new plan over the fabric takes from a job part.
-fn judged_on<F: Fabric>(fabric: &F, part: &[u8]) -> Result<(usize, usize), FileFault>
+fn judged_on<F: Fabric>(fabric: &F, part: &[u8]) -> Result<Counts, FileFault>
     ensures { result ≡ judged_on (F.Fabric.meaning fabric.now) part.now }
 {
     let mut plan = Plan::new(fabric);
@@ -37,7 +37,7 @@ fn skip_sections(bytes: &[u8]) -> Result<&[u8], SetFault>
     Ok(part)
 }
 
-fn judge_mesh(head: &Head, rest: &[u8]) -> Result<(usize, usize), FileFault>
+fn judge_mesh(head: &Head, rest: &[u8]) -> Result<Counts, FileFault>
     ensures { result ≡ mesh_verdict head.now rest.now }
 {
     let mesh = Mesh::new(head.x, head.y, head.delay).map_err(|_| SetFault::Head(
@@ -47,7 +47,7 @@ fn judge_mesh(head: &Head, rest: &[u8]) -> Result<(usize, usize), FileFault>
     judged_on(&mesh, part)
 }
 
-fn judge_listed(file: &[u8]) -> Result<(usize, usize), FileFault>
+fn judge_listed(file: &[u8]) -> Result<Counts, FileFault>
     ensures { result ≡ listed_verdict file.now }
 {
     let mut fabric = Listed::new();
@@ -56,7 +56,7 @@ fn judge_listed(file: &[u8]) -> Result<(usize, usize), FileFault>
 }
 
 // The tasks and messages of a plan file whose jobs are all taken, or the first fault.
-fn judge_file(file: &[u8]) -> Result<(usize, usize), FileFault>
+fn judge_file(file: &[u8]) -> Result<Counts, FileFault>
     ensures { result ≡ verdict_of file.now }
 {
     if file.len() > LONGEST_FILE {

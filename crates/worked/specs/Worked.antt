@@ -55,6 +55,9 @@ task_meets n h p = answer.TaskOffered (Err (task_fault.Meets (record { instant =
 abbrev pub message_meets : (instant held place : ℕ) → Answer
 message_meets n h p = answer.MessageOffered (Err (message_fault.Meets (record { instant = n; held = h; place = p })))
 
+abbrev pub all_loaded : (tasks messages : ℕ) → Answer
+all_loaded t m = answer.Loaded (Ok (record { tasks = t; messages = m }))
+
 abbrev pub late : ℤ → Answer
 late v = answer.MessageOffered (Err (message_fault.Late v))
 
@@ -84,11 +87,11 @@ worked =
     ∷ calling (mesh 1 1 0) (task 1 0 20 0 4 ∷ task 2 0 20 4 5 ∷ message 1 1 2 0 0 1 ∷ asking_slack 1 ∷ []) (task_taken ∷ task_taken ∷ message_taken ∷ answer.Slack (Ok (pos 0)) ∷ [])
     ∷ calling (mesh 1 1 0) (task 1 0 20 0 4 ∷ task 2 0 20 4 5 ∷ message 1 1 2 0 1 1 ∷ []) (task_taken ∷ task_taken ∷ late (negsuc 0) ∷ [])
     -- two nodes: slack 6 with no delay, 0 with delay 6, and late with delay 7
-    ∷ calling (mesh 2 1 3) (loading (two_nodes 0) ∷ asking_slack 1 ∷ []) (answer.Loaded (Ok (2, 1)) ∷ answer.Slack (Ok (pos 6)) ∷ [])
-    ∷ calling (mesh 2 1 3) (loading (two_nodes 6) ∷ asking_slack 1 ∷ []) (answer.Loaded (Ok (2, 1)) ∷ answer.Slack (Ok (pos 0)) ∷ [])
+    ∷ calling (mesh 2 1 3) (loading (two_nodes 0) ∷ asking_slack 1 ∷ []) (all_loaded 2 1 ∷ answer.Slack (Ok (pos 6)) ∷ [])
+    ∷ calling (mesh 2 1 3) (loading (two_nodes 6) ∷ asking_slack 1 ∷ []) (all_loaded 2 1 ∷ answer.Slack (Ok (pos 0)) ∷ [])
     ∷ calling (mesh 2 1 3) (loading (two_nodes 7) ∷ []) (answer.Loaded (Err (load_fault.Message 0 (message_fault.Late (negsuc 0)))) ∷ [])
     -- a second message meets the first on its link, and is placed behind it
-    ∷ calling (mesh 2 1 3) (loading (two_nodes 0) ∷ message 2 1 2 0 1 2 ∷ open_message 2 1 2 0 2 ∷ []) (answer.Loaded (Ok (2, 1)) ∷ message_meets 5 1 0 ∷ answer.MessagePlaced (Ok 2) ∷ [])
+    ∷ calling (mesh 2 1 3) (loading (two_nodes 0) ∷ message 2 1 2 0 1 2 ∷ open_message 2 1 2 0 2 ∷ []) (all_loaded 2 1 ∷ message_meets 5 1 0 ∷ answer.MessagePlaced (Ok 2) ∷ [])
     -- to a faster reader the least slack is not that of packet 0, and by kind 1 there is a period more
     ∷ calling (mesh 2 1 3) (task 1 0 20 0 4 ∷ task 2 1 8 5 1 ∷ message 1 1 2 0 0 2 ∷ message 1 1 2 1 0 2 ∷ asking_slack 1 ∷ []) (task_taken ∷ task_taken ∷ late (negsuc 7) ∷ message_taken ∷ answer.Slack (Ok (pos 12)) ∷ [])
     ∷ []

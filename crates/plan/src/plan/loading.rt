@@ -15,6 +15,7 @@ use fabric::Fabric;
 use jobs::fault::{MessageFault, TaskFault};
 use records::record::{Message, Record, Task};
 use records::section::Section;
+use refusals::refusal::Counts;
 
 // A kind of job that a load offers.
 trait Job: Record + Drop {
@@ -76,7 +77,7 @@ impl<'f, F: Fabric> Plan<'f, F> {
 
     // Loads a job part: the layout first, then the offers in turn. Answers how many tasks and messages it took; a load that is
     // refused at an offer keeps the jobs of the records before it.
-    pub fn load(&mut self, part: &[u8]) -> Result<(usize, usize), LoadFault>
+    pub fn load(&mut self, part: &[u8]) -> Result<Counts, LoadFault>
         ensures answer { result ≡ (load (setting F.Fabric.meaning self.old) (jobs self.old) part.now).0 }
         ensures told { refusal_of load_told result ≡ refusal_of load_told (load (setting F.Fabric.meaning self.old) (jobs self.old) part.now).0 }
         ensures after { jobs self.new ≡ (load (setting F.Fabric.meaning self.old) (jobs self.old) part.now).1 }
@@ -85,6 +86,7 @@ impl<'f, F: Fabric> Plan<'f, F> {
         let job = layout(part)?;
         self.load_jobs(&job.tasks)?;
         self.load_jobs(&job.messages)?;
-        Ok((job.tasks.count(), job.messages.count()))
+        let (tasks, messages) = (job.tasks.count(), job.messages.count());
+        Ok(Counts { tasks, messages })
     }
 }

@@ -74,7 +74,10 @@ impl<'f, F: Fabric> Plan<'f, F> {
         ensures room { is_ok result ≡ true → length (jobs self.now).tasks < 64 }
     {
         self.task_checks(t)?;
-        first_task_meeting(self.tasks.held(), t).map_or(Ok(()), |meeting| Err(TaskFault::Meets(meeting)))
+        first_task_meeting(self.tasks.held(), t).map_or(
+            Ok(()),
+            |meeting| Err(TaskFault::Meets(meeting)),
+        )
     }
 
     // One task more: there is room, so the insertion is not refused.

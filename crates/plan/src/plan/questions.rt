@@ -39,6 +39,9 @@ impl<'f, F: Fabric> Plan<'f, F> {
         if link as usize >= self.fabric.link_numbers() {
             return Err(PlaceFault);
         }
-        Ok(self.board().link_holder(self.messages.held(), link, instant))
+        Ok(
+            self.board()
+                .link_holder(self.messages.held(), link, instant),
+        )
     }
 }
