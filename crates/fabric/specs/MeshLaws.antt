@@ -31,8 +31,8 @@ module _ (link : ℕ → Option (ℕ × ℕ)) where
       subst (λ m. Chain link m (map f (range_with_len 0 k)) b) s (subst (λ m. Chain link (p 0) (map f (range_with_len 0 k)) m) (ap p z ∙ t) c)
 
 -- a link's number modulo 4 is its direction
-direction_of : (n d : ℕ) → d < 4 → (4 * n + d) % 4 ≡ d
-direction_of n d h = let e : 4 * n + d ≡ n * 4 + d = omega arith in ap (λ m. m % 4) e ∙ mod-mul-add n 4 d h
+turn : (n d : ℕ) → d < 4 → (4 * n + d) % 4 ≡ d
+turn n d h = let e : 4 * n + d ≡ n * 4 + d = omega arith in ap (λ m. m % 4) e ∙ mod-mul-add n 4 d h
 
 -- the number of the link in direction d from column x and row y gives its node and direction back
 module _ (w h x y d : ℕ) (inx : x < w) (iny : y < h) (ind : d < 4) where
@@ -43,7 +43,7 @@ module _ (w h x y d : ℕ) (inx : x < w) (iny : y < h) (ind : d < 4) where
   quarter = let e : 4 * node w x y + d ≡ node w x y * 4 + d = omega arith in ap (λ n. n / 4) e ∙ div-mul-add (node w x y) 4 d ind
 
   rest : (4 * node w x y + d) % 4 ≡ d
-  rest = direction_of (node w x y) d ind
+  rest = turn (node w x y) d ind
 
   swapped : node w x y ≡ y * w + x
   swapped = omega arith
@@ -113,9 +113,12 @@ module _ (w h : ℕ) where
   path_chain : (x y x' y' : ℕ) → x < w → y < h → x' < w → y' < h → Chain (grid_link w h) (node w x y) (grid_path w x y x' y') (node w x' y')
   path_chain x y x' y' inx iny inx' iny' = chain_append (grid_link w h) (node w x y) (node w x' y) (node w x' y') (across w x y x') (along w x' y y') (across_chain x y x' inx iny inx') (along_chain x' y y' inx' iny iny')
 
--- how long the walk along x and the path are
+-- how long the walk along x, that along y and the path are
 pub across_length : (w x y x' : ℕ) → length (across w x y x') ≡ (x' - x) + (x - x')
 across_length w x y x' = simp (length-append, length-map-range_with_len)
+
+along_length : (w x y y' : ℕ) → length (along w x y y') ≡ (y' - y) + (y - y')
+along_length w x y y' = simp (length-append, length-map-range_with_len)
 
 pub path_length : (w x y x' y' : ℕ) → length (grid_path w x y x' y') ≡ ((x' - x) + (x - x')) + ((y' - y) + (y - y'))
 path_length w x y x' y' = simp (length-append, length-map-range_with_len)
@@ -159,13 +162,13 @@ module _ (w : ℕ) where
   -- the direction of a link is below 2 along x, and from 2 on along y
   pub across_turns : (x y x' : ℕ) → Each (λ l. l % 4 < 2) (across w x y x')
   across_turns x y x' = each_append (λ l. l % 4 < 2) _ _
-      (each_counted (λ l. l % 4 < 2) (east w x y) (x' - x) (λ i. omega (arith, direction_of (node w (x + i) y) 0 (omega arith))))
-      (each_counted (λ l. l % 4 < 2) (west w x y) (x - x') (λ i. omega (arith, direction_of (node w (x - i) y) 1 (omega arith))))
+      (each_counted (λ l. l % 4 < 2) (east w x y) (x' - x) (λ i. omega (arith, turn (node w (x + i) y) 0 (omega arith))))
+      (each_counted (λ l. l % 4 < 2) (west w x y) (x - x') (λ i. omega (arith, turn (node w (x - i) y) 1 (omega arith))))
 
   pub along_turns : (x y y' : ℕ) → Each (λ l. 2 ≤ l % 4) (along w x y y')
   along_turns x y y' = each_append (λ l. 2 ≤ l % 4) _ _
-      (each_counted (λ l. 2 ≤ l % 4) (north w x y) (y' - y) (λ i. omega (arith, direction_of (node w x (y + i)) 2 (omega arith))))
-      (each_counted (λ l. 2 ≤ l % 4) (south w x y) (y - y') (λ i. omega (arith, direction_of (node w x (y - i)) 3 (omega arith))))
+      (each_counted (λ l. 2 ≤ l % 4) (north w x y) (y' - y) (λ i. omega (arith, turn (node w x (y + i)) 2 (omega arith))))
+      (each_counted (λ l. 2 ≤ l % 4) (south w x y) (y - y') (λ i. omega (arith, turn (node w x (y - i)) 3 (omega arith))))
 
   -- of two ways in opposite directions one has no link, and along one way the nodes differ
   across_once : (x y x' : ℕ) → Once (across w x y x')

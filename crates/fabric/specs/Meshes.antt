@@ -18,11 +18,11 @@ made (Ok m) = Ok (mesh_of m)
 made (Err fault) = Err 3
 
 -- a direction by its number
-abbrev pub turn : Direction → ℕ
-turn East = 0
-turn West = 1
-turn North = 2
-turn South = 3
+abbrev pub direction_number : Direction → ℕ
+direction_number East = 0
+direction_number West = 1
+direction_number North = 2
+direction_number South = 3
 
 -- the column and row of a node of the mesh
 pub record IsSpot (m : Mesh) (node : ℕ) (s : Spot) : Type 0 where

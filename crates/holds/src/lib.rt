@@ -3,7 +3,7 @@
 #![tactic(auto)]
 
 ghost use Rattle.holds.specs.First.{MeetingIsFirst, MeetingBound};
-ghost use Rattle.holds.specs.Gcd.{GcdIsGreatest};
+ghost use Rattle.holds.specs.Gcd.{GcdIsGreatest, QuotientWhole};
 ghost use Rattle.holds.specs.Slack.{AlwaysRead, LeastWhole, SlackIsLeast};
 ghost use Rattle.holds.specs.Span.{GapIsDifference, PairTest};
 ghost use Rattle.std.specs.Prelude.{◌≡◌};
@@ -30,6 +30,7 @@ pub use wait::least_wait;
 pub fn formulas_stand() -> u8
     ensures answer { result ≡ 0 }
     ensures divisor { GcdIsGreatest }
+    ensures quotient { QuotientWhole }
     ensures pair { PairTest }
     ensures difference { GapIsDifference }
     ensures meeting { MeetingIsFirst }

@@ -3,7 +3,7 @@ ghost use Rattle.std.specs.Prelude.{◌≡◌, ℕ, ◌+◌, ◌*◌, ◌<◌, �
 ghost use Rattle.std.proofs.Common.{lit≤};
 ghost use Rattle.std.specs.List.{slice_get};
 ghost use Rattle.fabric.specs.Grid.{grid, grid_path, grid_made, node};
-ghost use Rattle.fabric.specs.Meshes.{mesh_of, made, turn, IsSpot};
+ghost use Rattle.fabric.specs.Meshes.{mesh_of, made, direction_number, IsSpot};
 ghost use Rattle.fabric.specs.MeshLaws.{mesh_lawful};
 ghost use Rattle.fabric.specs.MeshRoutes.{MeshRoutes};
 
@@ -44,7 +44,7 @@ impl Mesh {
     // The link out of the node at a column and row.
     fn link_out(&self, x: usize, y: usize, toward: Direction) -> usize
         requires { (x < 8) × (y < 8) }
-        ensures { result ≡ 4 * node self.now.columns x y + turn toward }
+        ensures { result ≡ 4 * node self.now.columns x y + direction_number toward }
     {
         toward.link(x + self.columns as usize * y)
     }

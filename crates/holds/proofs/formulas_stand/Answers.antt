@@ -1,9 +1,9 @@
-use Rattle.std.proofs.Common.{refl}
+use Rattle.std.proofs.Common.{refl, sym}
 use Rattle.holds.proofs.Euclid.{gcd_is_greatest}
 use Rattle.holds.proofs.First.{first_is, meeting_bound}
 use Rattle.holds.proofs.Pair.{pair_test}
 use Rattle.holds.proofs.Reading.{always_read, least_whole, slack_is_least}
-use Rattle.holds.proofs.Residue.{gap_is_difference}
+use Rattle.holds.proofs.Residue.{gap_is_difference, whole}
 use Rattle.holds.proofs.formulas_stand.Goals as goal
 
 pub returns : goal.returns
@@ -11,6 +11,7 @@ returns c =
     record {
       answer = refl;
       divisor = gcd_is_greatest;
+      quotient = λ d n divides. sym (whole d n divides);
       pair = pair_test;
       difference = gap_is_difference;
       meeting = first_is;
