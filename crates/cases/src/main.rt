@@ -19,7 +19,7 @@ fn digit(b: u8) -> u8
     char::from(b).to_digit(16).map_or(0, |d| d as u8)
 }
 
-// The bytes that the digits stand for, two digits to a byte.
+// The bytes that the digits stand for, two digits to a byte; any other byte stands for 0, so that a table is never refused here.
 fn decode(heap: Global, text: &[u8]) -> Result<Vec<u8>, AllocError> {
     let (pairs, _) = text.as_chunks::<2>();
     pairs
@@ -30,6 +30,7 @@ fn decode(heap: Global, text: &[u8]) -> Result<Vec<u8>, AllocError> {
 
 fn show<W: Write>(heap: Global, out: &mut W, room: usize, text: &str) -> anyhow::Result<()> {
     let file = decode(heap, text.as_bytes())?;
+    // a buffer and a length of it, since a case says how long a buffer the judge is given
     let mut buffer = [0u8; BUFFER_ROOM];
     let line = &mut buffer[0..room.min(BUFFER_ROOM)];
     match judge(&file, line) {

@@ -67,7 +67,7 @@ impl From<PlaceFault> for Refusal {
     }
 }
 
-// The refusal of this number that names a meeting.
+// The refusal of this number that names a meeting; the two numbers stand beside their faults, below.
 fn meets(number: u8, meeting: Meeting) -> Refusal
     ensures { result ≡ meets number meeting }
 {

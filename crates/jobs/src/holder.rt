@@ -14,7 +14,7 @@ use fabric::Fabric;
 use holds::run_at;
 use records::record::{Message, Task};
 
-// The run of a stay that has a place at an instant.
+// The run of a stay that has a place at an instant. The two are what is asked; they go down through four short functions as they are.
 fn run_there(place: Place, instant: u64, stay: &Stay) -> Option<u64>
     ensures { result ≡ run_on place instant (stay_take stay.now) }
 {

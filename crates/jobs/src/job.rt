@@ -33,9 +33,10 @@ impl<'a, F: Fabric> Job<Board<'a, F>> for Message {
     ghost takes = { λ b m. message_takes (setting_of F.Fabric.meaning b) b.tasks.now m };
 
     fn stays(&self, board: &Board<'a, F>) -> Stays {
-        match board.way_of(self) {
-            Some(way) => Stays::Links(way.stays(board.fabric)),
-            None => Stays::Links(ArrayVec::new()),
-        }
+        Stays::Links(
+            board
+                .way_of(self)
+                .map_or_else(ArrayVec::new, |way| way.stays(board.fabric)),
+        )
     }
 }

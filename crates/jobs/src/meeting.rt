@@ -35,7 +35,7 @@ pub(crate) fn meeting_at(name: u16, own: &Stay, held: &Stay) -> Option<Meeting>
     })
 }
 
-// The earlier of two meetings.
+// The earlier of two meetings, if there is one. Not the order of options, in which none comes first.
 fn earlier(one: Option<Meeting>, other: Option<Meeting>) -> Option<Meeting>
     ensures { result ≡ sooner one other }
 {

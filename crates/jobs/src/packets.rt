@@ -54,7 +54,7 @@ impl Way {
         ensures { map stay_take result.items ≡ way_takes (over F.Fabric.meaning fabric.now) self.now }
     {
         let mut stays = ArrayVec::new();
-        // by places, from each of which the start of its stay is reckoned
+        // by places, from each of which the start of its stay is reckoned; a `collect` would ask for an allocator
         for place in 0..F::reach() {
             if let Some(stay) = self.stay_on(fabric, place) {
                 stays.push(stay);

@@ -72,6 +72,7 @@ pub fn first_phase(held: &[Task], t: &OpenTask) -> Option<u32>
 {
     let last = t.period.checked_sub(t.width)?;
     let mut phase: u32 = 0;
+    // a `while`, since how far the next step leaps is known only from what is met
     while phase <= last {
         let task = t.at(phase);
         let Some(meeting) = first_task_meeting(held, &task) else {
@@ -89,6 +90,7 @@ impl<'a, F: Fabric> Board<'a, F> {
         ensures { result ≡ first_from (λ v. clear (on_way (setting_of F.Fabric.meaning self.now) (record { tasks = self.now.tasks.now; messages = held.now }) (message_at m.now v) ends.now.source ends.now.destination ((F.Fabric.meaning self.now.fabric.now).route ends.now.source.core ends.now.destination.core))) ends.now.source.period 0 }
     {
         let mut delay: u32 = 0;
+        // a `while` for the same reason
         while delay < ends.source.period {
             let message = m.at(delay);
             let way = Way::between(self.fabric, ends, &message)?;

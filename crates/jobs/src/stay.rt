@@ -13,7 +13,7 @@ pub(crate) struct Stay {
     pub(crate) hold: Option<Hold>,
 }
 
-// An `ArrayVec` fills its unused places with the default; none of these is read.
+// An `ArrayVec` fills its unused places with the default; none of these is read. By hand, since no place is the default of all.
 impl Default for Stay {
     fn default() -> Stay {
         Stay {

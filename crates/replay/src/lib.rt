@@ -63,6 +63,7 @@ pub fn replay<'f, F: Fabric>(
 {
     let mut answers = Vec::new(heap);
     let mut plan = Plan::new(fabric);
+    // a loop, since each call runs on the plan that the one before left, and a push may find no memory
     for call in calls {
         answers.push(step(&mut plan, call))?;
     }

@@ -32,7 +32,7 @@ impl fmt::Display for Shown<'_> {
             Answer::Loaded(Err(fault)) => write!(f, "{}", Told::from(fault)),
             Answer::Slack(Ok(least)) => write!(f, "SLACK {least}"),
             Answer::Slack(Err(fault)) => write!(f, "{}", Refusal::from(fault)),
-            // the pair is the plan's answer as it came: a type for it would be taken apart here alone
+            // a holder is told as plain numbers, a name and a run
             Answer::Holder(Ok(Some((name, run)))) => write!(f, "HELD {name} {run}"),
             Answer::Holder(Ok(None)) => write!(f, "FREE"),
             Answer::Holder(Err(fault)) => write!(f, "{}", Refusal::from(fault)),

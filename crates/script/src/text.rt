@@ -10,7 +10,7 @@ pub(crate) fn after<'a>(front: &[u8], text: &'a [u8]) -> Option<&'a [u8]>
     text.strip_prefix(front)
 }
 
-// A type of numbers that a field may have. std has no trait with the largest value of each such type.
+// A type of numbers that a field may have. `TryFrom<u64>` alone does not tell the largest value, which says what a field takes.
 pub(crate) trait Unsigned: Sized {
     const MOST: u64;
 

@@ -13,11 +13,11 @@ use listed::{Listed, SetFault, read_section};
 use plan::Plan;
 use records::head::{FabricKind, Head, HeadFault, read_head};
 use records::record::{Link, Route};
-use refusals::line::{LONGEST_LINE, write_line};
+use refusals::line::write_line;
 use refusals::refusal::{BufferFault, Counts, Told};
 
 // No plan file is longer.
-const LONGEST_FILE: usize = 8192;
+pub const LONGEST_FILE: usize = 8192;
 
 // How many tasks and messages a new plan over the fabric takes from a job part.
 fn judged_on<F: Fabric>(fabric: &F, part: &[u8]) -> Result<Counts, FileFault>
@@ -77,8 +77,5 @@ pub fn judge(file: &[u8], out: &mut [u8]) -> Result<usize, BufferFault>
     ensures told { refusal_of buffer_told result ≡ (if nat_lt (length out.old) 64 then Some (plain 27) else None) }
     ensures bound { IfOk result (λ n. n ≤ 64) }
 {
-    if out.len() < LONGEST_LINE {
-        return Err(BufferFault);
-    }
     write_line(out, judge_file(file).map_err(Told::from))
 }

@@ -4,5 +4,5 @@
 mod fault;
 mod judging;
 
-pub use judging::judge;
+pub use judging::{LONGEST_FILE, judge};
 pub use refusals::line::LONGEST_LINE;
