@@ -42,7 +42,7 @@ module _ {A B R F : Type 0} (v : A → B) (g : Mut F (A × Unit {0}) (Option R))
       subst (λ (z : B). h z ≡ y) same (sym (calls x y f call).1)
 
   given : (o : Option A) (b : B) → option_map v o ≡ Some b → MatchOption o (Unit {0}) (λ x. Called g f (x, tt) None f) → IsSomeAnd o (λ x. Called g f (x, tt) None f)
-  given None b read call = let z : ◌≡◌ {A = ℕ} 0 1 = cc in absurd (omega arith)
+  given None b read call = cc
   given (Some x) b read call = call
 
   -- `find_map` answers what the first item with an answer has

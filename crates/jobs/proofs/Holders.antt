@@ -1,5 +1,5 @@
 -- The holder that the rule tells has the place at the instant, and where it tells none, nothing has.
-use Rattle.std.proofs.Common.{◌≡◌, ℕ, zero, suc, ◌+◌, Bool, true, false, cond, List, [], ◌∷◌, map, Some, None, Option, sym, refl, ap, ◌∙◌, subst, arith}
+use Rattle.std.proofs.Common.{◌≡◌, ℕ, zero, suc, ◌+◌, Bool, true, false, cond, List, [], ◌∷◌, map, Some, None, Option, sym, refl, ap, ◌∙◌, subst}
 use Rattle.std.specs.List.{slice_get}
 use Rattle.std.proofs.lemmas.Bool.{cond-true}
 use Rattle.holds.specs.Run.{RunAt, run}
@@ -36,14 +36,14 @@ abbrev pub AllFit : List Take → Type 0
 AllFit ts = (i : ℕ) (t : Take) → slice_get ts i ≡ Some t → Fit t
 
 of_sound : (o : Option Span) (n k : ℕ) → ((h : Span) → o ≡ Some h → Proper h) → run_of n o ≡ Some k → (h : Span) × (o ≡ Some h) × HoldsAt h k n
-of_sound None n k fit e = let z : ◌≡◌ {A = ℕ} 0 1 = cc in absurd (omega arith)
+of_sound None n k fit e = cc
 of_sound (Some h) n k fit e = (h, refl, run_sound h n k (fit h refl) e)
 
 on_sound : (p : Place) (n k : ℕ) (t : Take) → Fit t → run_on p n t ≡ Some k → Has p n k t
 on_sound p n k t fit e = go (same_place p t.place) refl e
   where
     go : (b : Bool) → same_place p t.place ≡ b → cond b (run_of n t.hold) None ≡ Some k → Has p n k t
-    go false at is = let z : ◌≡◌ {A = ℕ} 0 1 = cc in absurd (omega arith)
+    go false at is = cc
     go true at is = (at, of_sound t.hold n k fit is)
 
 on_complete : (p : Place) (n k : ℕ) (t : Take) → Fit t → Has p n k t → run_on p n t ≡ Some k
@@ -52,7 +52,7 @@ on_complete p n k t fit (at, (h, is, holds)) =
 
 module _ (p : Place) (n : ℕ) where
   first_sound : (ts : List Take) (k : ℕ) → AllFit ts → first_run p n ts ≡ Some k → (t : Take) × ((i : ℕ) × (slice_get ts i ≡ Some t)) × Has p n k t
-  first_sound [] k fit e = let z : ◌≡◌ {A = ℕ} 0 1 = cc in absurd (omega arith)
+  first_sound [] k fit e = cc
   first_sound (t ∷ ts) k fit e = go (run_on p n t) refl (first_sound ts k (λ i x. fit (suc i) x)) e
     where
       go : (o : Option ℕ) → run_on p n t ≡ o → (first_run p n ts ≡ Some k → (x : Take) × ((i : ℕ) × (slice_get ts i ≡ Some x)) × Has p n k x)
@@ -64,16 +64,16 @@ module _ (p : Place) (n : ℕ) where
           later (x, (i, e), has) = (x, (suc i, e), has)
 
   first_none : (ts : List Take) → AllFit ts → first_run p n ts ≡ None → (i k : ℕ) (t : Take) → slice_get ts i ≡ Some t → Has p n k t → ⊥
-  first_none [] fit e i k t at has = let z : ◌≡◌ {A = ℕ} 0 1 = cc in omega arith
+  first_none [] fit e i k t at has = cc
   first_none (x ∷ ts) fit e i k t at has = go (run_on p n x) refl (λ none j there. first_none ts (λ i y. fit (suc i) y) none j k t there has) e i at
     where
       go : (o : Option ℕ) → run_on p n x ≡ o → (first_run p n ts ≡ None → (j : ℕ) → slice_get ts j ≡ Some t → ⊥)
           → or_else o (first_run p n ts) ≡ None → (i : ℕ) → slice_get (x ∷ ts) i ≡ Some t → ⊥
-      go (Some j) is rest no_run i at = let z : ◌≡◌ {A = ℕ} 0 1 = cc in omega arith
+      go (Some j) is rest no_run i at = cc
       go None is rest no_run zero at =
           let same : x ≡ t = cc in
           let some : Some k ≡ None = sym (on_complete p n k x (fit 0 x refl) (subst (λ (y : Take). Has p n k y) (sym same) has)) ∙ is in
-          let z : ◌≡◌ {A = ℕ} 0 1 = cc in omega arith
+          cc
       go None is rest no_run (suc i) at = rest no_run i at
 
   -- ---- jobs
@@ -85,7 +85,7 @@ module _ (p : Place) (n : ℕ) where
   holder_is [] fit = λ name k h. nothing_there h.job_at
     where
       nothing_there : {j : HeldJob} → (i : ℕ) × (slice_get [] i ≡ Some j) → ⊥
-      nothing_there (i, e) = let z : ◌≡◌ {A = ℕ} 0 1 = cc in omega arith
+      nothing_there (i, e) = cc
   holder_is (j ∷ js) fit = go (first_run p n j.takes) refl (holder_is js (λ i x. fit (suc i) x))
     where
       lift : (o : Option (ℕ × ℕ)) → HolderIs js p n o → first_run p n j.takes ≡ None → HolderIs (j ∷ js) p n o
@@ -112,10 +112,10 @@ some_same e = cc
 
 task_fit : (t : Task) → AllFit (held_task t).takes
 task_fit t zero x e h is = spanned_proper t.phase t.period t.width h (ap (λ y. y.hold) (some_same e) ∙ is)
-task_fit t (suc i) x e h is = let z : ◌≡◌ {A = ℕ} 0 1 = cc in absurd (omega arith)
+task_fit t (suc i) x e h is = cc
 
 mapped_fit : {X : Type 0} (f : X → HeldJob) (xs : List X) → ((x : X) → AllFit (f x).takes) → (i : ℕ) (j : HeldJob) → slice_get (map f xs) i ≡ Some j → AllFit j.takes
-mapped_fit f [] fit i j e = let z : ◌≡◌ {A = ℕ} 0 1 = cc in absurd (omega arith)
+mapped_fit f [] fit i j e = cc
 mapped_fit f (x ∷ xs) fit zero j e = let same : f x ≡ j = cc in subst (λ (y : HeldJob). AllFit y.takes) same (fit x)
 mapped_fit f (x ∷ xs) fit (suc i) j e = mapped_fit f xs fit i j e
 
@@ -123,17 +123,17 @@ pub tasks_fit : (ts : List Task) (i : ℕ) (j : HeldJob) → slice_get (map held
 tasks_fit ts = mapped_fit held_task ts task_fit
 
 along_fit : (hop : ℕ) (r : List ℕ) (s p w : ℕ) → AllFit (along hop r s p w)
-along_fit hop [] s p w i x e h is = let z : ◌≡◌ {A = ℕ} 0 1 = cc in absurd (omega arith)
+along_fit hop [] s p w i x e h is = cc
 along_fit hop (l ∷ ls) s p w zero x e h is = spanned_proper s p w h (ap (λ y. y.hold) (some_same e) ∙ is)
 along_fit hop (l ∷ ls) s p w (suc i) x e h is = along_fit hop ls (s + hop) p w i x e h is
 
 route_fit : (hop : ℕ) (o : Option (List ℕ)) (s p w : ℕ) → AllFit (on_route hop o s p w)
-route_fit hop None s p w i x e = let z : ◌≡◌ {A = ℕ} 0 1 = cc in absurd (omega arith)
+route_fit hop None s p w i x e = cc
 route_fit hop (Some r) s p w i x e = along_fit hop r s p w i x e
 
 between_fit : (g : Setting) (m : Message) (s d : Option Task) → AllFit (between g m s d)
-between_fit g m None d i x e = let z : ◌≡◌ {A = ℕ} 0 1 = cc in absurd (omega arith)
-between_fit g m (Some s) None i x e = let z : ◌≡◌ {A = ℕ} 0 1 = cc in absurd (omega arith)
+between_fit g m None d i x e = cc
+between_fit g m (Some s) None i x e = cc
 between_fit g m (Some s) (Some d) i x e =
     route_fit g.network.delay (g.network.route s.core d.core) (s.phase + s.width + m.delay) s.period m.width i x e
 

@@ -44,7 +44,7 @@ task_holds t e =
 
 -- the take at a place of a route
 pub at_place : (hop : ℕ) (r : List ℕ) (start p w i l : ℕ) → slice_get r i ≡ Some l → slice_get (along hop r start p w) i ≡ Some (link_take l (spanned (start + i * hop) p w))
-at_place hop [] start p w i l e = let z : ◌≡◌ {A = ℕ} 0 1 = cc in absurd (omega arith)
+at_place hop [] start p w i l e = cc
 at_place hop (x ∷ xs) start p w zero l e =
     let same : x ≡ l = cc in
     let now : start ≡ start + 0 * hop = omega arith in
@@ -55,7 +55,7 @@ at_place hop (x ∷ xs) start p w (suc i) l e =
 
 inside : (r : List ℕ) (i l : ℕ) → slice_get r i ≡ Some l → i < length r
 inside r i l e =
-    ⊎_elim (λ lt. lt) (λ le. let none : None ≡ Some l = sym (slice_get_past r i le) ∙ e in let z : ◌≡◌ {A = ℕ} 0 1 = cc in absurd (omega arith)) (cases_lt i (length r))
+    ⊎_elim (λ lt. lt) (λ le. let none : None ≡ Some l = sym (slice_get_past r i le) ∙ e in cc) (cases_lt i (length r))
 
 pub packet_holds : (g : Setting) (most : ℕ) → most ≤ 64 → Lawful most g.network
     → (s d : Task) (m : Message) → task_timely s ≡ true → message_timely s m ≡ true

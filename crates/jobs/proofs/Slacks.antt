@@ -18,7 +18,7 @@ use Rattle.jobs.specs.Takes.{task_hold, task_span}
 -- what passes a test is what was tested
 passes : {X : Type 0} (b : Bool) (x y : X) → cond b (Some x) None ≡ Some y → (b ≡ true) × (x ≡ y)
 passes true x y e = (refl, cc)
-passes false x y e = let z : ◌≡◌ {A = ℕ} 0 1 = cc in absurd (omega arith)
+passes false x y e = cc
 
 flow_is : (a d p : ℕ) (f : Flow) → flowing a d p ≡ Some f → (record { arrival = a; due = d; period = p } ≡ f) × (0 < p)
 flow_is a d p f e =
@@ -35,8 +35,8 @@ pub least_told : (a d p : ℕ) (t : Task) (v : ℤ) → slack_of (flowing a d p)
 least_told a d p t v e = go (flowing a d p) (task_hold t) refl refl e
   where
     go : (o : Option Flow) (h : Option Span) → flowing a d p ≡ o → task_hold t ≡ h → slack_of o h ≡ Some v → LeastSlack (record { arrival = a; due = d; period = p }) (task_span t) v
-    go None h eo eh is = let z : ◌≡◌ {A = ℕ} 0 1 = cc in absurd (omega arith)
-    go (Some f) None eo eh is = let z : ◌≡◌ {A = ℕ} 0 1 = cc in absurd (omega arith)
+    go None h eo eh is = cc
+    go (Some f) None eo eh is = cc
     go (Some f) (Some r) eo eh is =
         let flow = flow_is a d p f eo in
         let span = span_is t.phase t.period t.width r eh in
@@ -51,7 +51,7 @@ module _ (g : Setting) (js : Jobs) (n : ℕ) (v : ℤ) where
   routed : (m : Message) (s d : Task) (o : Option (List ℕ)) → named message_name n js.messages ≡ Some m
       → task_named js.tasks m.source ≡ Some s → task_named js.tasks m.destination ≡ Some d → g.network.route s.core d.core ≡ o
       → routed_slack g m s d o ≡ Some v → HeldSlack g js n v
-  routed m s d None em es ed eo is = let z : ◌≡◌ {A = ℕ} 0 1 = cc in absurd (omega arith)
+  routed m s d None em es ed eo is = cc
   routed m s d (Some r) em es ed eo is =
       record {
         message = m;
@@ -68,12 +68,12 @@ module _ (g : Setting) (js : Jobs) (n : ℕ) (v : ℤ) where
   ends : (m : Message) (s d : Option Task) → named message_name n js.messages ≡ Some m
       → task_named js.tasks m.source ≡ s → task_named js.tasks m.destination ≡ d
       → slack_between g m s d ≡ Some v → HeldSlack g js n v
-  ends m None d em es ed is = let z : ◌≡◌ {A = ℕ} 0 1 = cc in absurd (omega arith)
-  ends m (Some s) None em es ed is = let z : ◌≡◌ {A = ℕ} 0 1 = cc in absurd (omega arith)
+  ends m None d em es ed is = cc
+  ends m (Some s) None em es ed is = cc
   ends m (Some s) (Some d) em es ed is = routed m s d (g.network.route s.core d.core) em es ed refl is
 
   found : (o : Option Message) → named message_name n js.messages ≡ o → slack_held g js o ≡ Some v → HeldSlack g js n v
-  found None em is = let z : ◌≡◌ {A = ℕ} 0 1 = cc in absurd (omega arith)
+  found None em is = cc
   found (Some m) em is = ends m (task_named js.tasks m.source) (task_named js.tasks m.destination) em refl refl is
 
   -- the slack of a held message is that of some packet, and no packet's is less

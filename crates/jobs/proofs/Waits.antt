@@ -47,7 +47,7 @@ module _ (x y : Take) where
   -- one take against each of a held job's
   met_each : (best : Option Meeting) (name : ℕ) (ys : List Take) (j : ℕ) → slice_get ys j ≡ Some y → clear (met name x y) ≡ false
       → clear (earliest_from best (map (met name x) ys)) ≡ false
-  met_each best name [] j e h = let z : ◌≡◌ {A = ℕ} 0 1 = cc in absurd (omega arith)
+  met_each best name [] j e h = cc
   met_each best name (u ∷ ys) zero e h =
       let same : u ≡ y = cc in
       earliest_kept (sooner best (met name x u)) (map (met name x) ys)
@@ -57,7 +57,7 @@ module _ (x y : Take) where
   -- each take of the offered job against those
   met_both : (best : Option Meeting) (name : ℕ) (xs ys : List Take) (i j : ℕ) → slice_get xs i ≡ Some x → slice_get ys j ≡ Some y → clear (met name x y) ≡ false
       → clear (earliest_from best (meetings name xs ys)) ≡ false
-  met_both best name [] ys i j ex ey h = let z : ◌≡◌ {A = ℕ} 0 1 = cc in absurd (omega arith)
+  met_both best name [] ys i j ex ey h = cc
   met_both best name (u ∷ xs) ys zero j ex ey h =
       let same : u ≡ x = cc in
       rw earliest_append
@@ -70,7 +70,7 @@ module _ (x y : Take) where
   pub met_all : (best : Option Meeting) (xs : List Take) (hs : List HeldJob) (k i j : ℕ) (h : HeldJob)
       → slice_get hs k ≡ Some h → slice_get xs i ≡ Some x → slice_get h.takes j ≡ Some y → clear (met h.name x y) ≡ false
       → clear (earliest_from best (all_meetings xs hs)) ≡ false
-  met_all best xs [] k i j h eh ex ey m = let z : ◌≡◌ {A = ℕ} 0 1 = cc in absurd (omega arith)
+  met_all best xs [] k i j h eh ex ey m = cc
   met_all best xs (u ∷ hs) zero i j h eh ex ey m =
       let same : u ≡ h = cc in
       rw earliest_append
@@ -108,7 +108,7 @@ still_meets p q own held (Some w) same po ph least =
 -- ---- what is put off
 
 nth_map : {A B : Type 0} (f : A → B) (xs : List A) (i : ℕ) (x : A) → slice_get xs i ≡ Some x → slice_get (map f xs) i ≡ Some (f x)
-nth_map f [] i x e = let z : ◌≡◌ {A = ℕ} 0 1 = cc in absurd (omega arith)
+nth_map f [] i x e = cc
 nth_map f (y ∷ xs) zero x e = let same : y ≡ x = cc in ap (λ z. Some (f z)) same
 nth_map f (y ∷ xs) (suc i) x e = nth_map f xs i x e
 
@@ -141,7 +141,7 @@ spanned_later s p w n l =
 
 -- what stands where a name is found
 named_at : {X : Type 0} (f : X → ℕ) (name : ℕ) (xs : List X) (x : X) → Some x ≡ named f name xs → (k : ℕ) × (slice_get xs k ≡ Some x)
-named_at f name [] x e = let z : ◌≡◌ {A = ℕ} 0 1 = cc in absurd (omega arith)
+named_at f name [] x e = cc
 named_at f name (y ∷ xs) x e = go (eqb (f y) name) (named_at f name xs x) e
   where
     further : (k : ℕ) × (slice_get xs k ≡ Some x) → (k : ℕ) × (slice_get (y ∷ xs) k ≡ Some x)

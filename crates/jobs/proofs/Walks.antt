@@ -1,10 +1,10 @@
 -- What packets have yet to take on their way, from a place of the route on.
-use Rattle.std.proofs.Common.{◌≡◌, ℕ, ◌+◌, ◌*◌, ◌≤◌, List, [], ◌∷◌, ◌++◌, Some, None, Option, sym, refl, ap, ◌∙◌, add-mul, append-nil, append_assoc, arith}
+use Rattle.std.proofs.Common.{◌≡◌, ℕ, ◌+◌, ◌*◌, ◌≤◌, List, [], ◌∷◌, ◌++◌, Some, None, Option, sym, refl, ap, ◌∙◌, add-mul, append_assoc, arith}
 use Rattle.std.specs.Option.{option_map}
 use Rattle.std.proofs.lemmas.List.{at_drop_all}
 use Rattle.holds.specs.Held.{span}
-use Rattle.fabric.specs.Network.{Lawful, route_place}
-use Rattle.fabric.proofs.Laws.{rest, rest_more, rest_past, no_place}
+use Rattle.fabric.specs.Network.{route_place}
+use Rattle.fabric.proofs.Laws.{rest, rest_more, no_place}
 use Rattle.records.specs.declared.record.Task.{Task}
 use Rattle.records.specs.declared.record.Message.{Message}
 use Rattle.jobs.specs.declared.stay.Stay.{Stay}
@@ -15,14 +15,6 @@ use Rattle.jobs.specs.Ways.{StaysOn, stay_take, way_takes, IsWay}
 
 abbrev pub takes_from : Setting → Way → ℕ → List Take
 takes_from g w i = along w.hop (rest (g.network.route w.from w.to) i) (w.start + i * w.hop) w.period w.width
-
-from_first : (o : Option (List ℕ)) (hop s p w : ℕ) → on_route hop o s p w ≡ along hop (rest o 0) (s + 0 * hop) p w
-from_first None hop s p w = refl
-from_first (Some r) hop s p w = let e : s ≡ s + 0 * hop = omega arith in ap (λ (n : ℕ). along hop r n p w) e
-
--- at place 0 all is yet to be taken
-pub way_first : (g : Setting) (w : Way) → way_takes g w ≡ takes_from g w 0
-way_first g w = from_first (g.network.route w.from w.to) w.hop w.start w.period w.width
 
 -- the stay at a place comes before those at the next places
 pub takes_more : (g : Setting) (w : Way) (i : ℕ) (s : Stay) → StaysOn g.network w i s → takes_from g w i ≡ stay_take s ∷ takes_from g w (i + 1)
@@ -40,9 +32,6 @@ ended (Some r) i e k h = at_drop_all (λ xs. xs) r k (omega (arith, no_place r i
 -- past the last link nothing is taken
 pub takes_none : (g : Setting) (w : Way) (i : ℕ) → None ≡ route_place (g.network.route w.from w.to) i → (k : ℕ) → i ≤ k → takes_from g w k ≡ []
 takes_none g w i e k h = ap (λ ls. along w.hop ls (w.start + k * w.hop) w.period w.width) (ended (g.network.route w.from w.to) i e k h)
-
-pub takes_past : (g : Setting) (w : Way) (longest : ℕ) → Lawful longest g.network → (i : ℕ) → longest ≤ i → takes_from g w i ≡ []
-takes_past g w longest laws i h = ap (λ ls. along w.hop ls (w.start + i * w.hop) w.period w.width) (rest_past laws w.from w.to i h)
 
 -- a message's way takes what its packets take
 pub way_is : (g : Setting) (s d : Task) (m : Message) (w : Way) → IsWay g s d m w → way_takes g w ≡ packet_takes g s d m
@@ -62,6 +51,3 @@ module _ (g : Setting) (w : Way) (i : ℕ) (front all : List Take) where
 
   pub stays_none : None ≡ route_place (g.network.route w.from w.to) i → front ++ takes_from g w i ≡ all → front ++ takes_from g w (i + 1) ≡ all
   stays_none gone inv = ap (λ ts. front ++ ts) (takes_none g w i gone (i + 1) (omega arith) ∙ sym (takes_none g w i gone i (omega arith))) ∙ inv
-
-  pub stays_end : takes_from g w i ≡ [] → front ++ takes_from g w i ≡ all → front ≡ all
-  stays_end gone inv = sym (append-nil front) ∙ ap (λ ts. front ++ ts) (sym gone) ∙ inv

@@ -34,7 +34,7 @@ module _ {X : Type 0} (name : X → ℕ) where
     where
       none : (o : Option ℕ) → is_some o ≡ false → o ≡ None
       none None e = refl
-      none (Some i) e = let z : ◌≡◌ {A = ℕ} 0 1 = cc in absurd (omega arith)
+      none (Some i) e = cc
 
   -- names still ascend with a new one
   ascends_more : (x : X) (xs : List X) → 0 < name x → ((y : X) → In y xs → name y ≡ name x → ⊥) → ascends name 0 xs ≡ true → ascends name 0 (add name x xs) ≡ true

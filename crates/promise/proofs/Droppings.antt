@@ -17,7 +17,7 @@ held_spot : {X : Type 0} (name : X → ℕ) (n : ℕ) (xs : List X) → is_some 
 held_spot {X = X} name n xs e = go (named name n xs) refl (sym (spot_named name n xs) ∙ e)
   where
     go : (o : Option X) → named name n xs ≡ o → is_some o ≡ true → (x : X) × In x xs × (name x ≡ n)
-    go None is x = let z : ◌≡◌ {A = ℕ} 0 1 = cc in absurd (omega arith)
+    go None is x = cc
     go (Some y) is x = let k = named_in name n y xs is in (y, k.0, k.1)
 
 -- a message names a task where the test says so
@@ -29,7 +29,7 @@ named_so n m (inl a) = or_left (eqb m.source n) (eqb m.destination n) (eq-eqb m.
 named_so n m (inr b) = or_right (eqb m.source n) (eqb m.destination n) (eq-eqb m.destination n b)
 
 used : (n : ℕ) (ms : List Message) → in_use n ms ≡ true → (m : Message) × In m ms × ((m.source ≡ n) ⊎ (m.destination ≡ n))
-used n [] e = let z : ◌≡◌ {A = ℕ} 0 1 = cc in absurd (omega arith)
+used n [] e = cc
 used n (m ∷ ms) e = ⊎_elim (λ a. (m, (0, refl), naming n m a)) (λ b. later (used n ms b)) (or_cases (names_task n m) (in_use n ms) e)
   where
     later : (o : Message) × In o ms × ((o.source ≡ n) ⊎ (o.destination ≡ n)) → (o : Message) × In o (m ∷ ms) × ((o.source ≡ n) ⊎ (o.destination ≡ n))
@@ -48,18 +48,18 @@ task_dropping js n = go (is_some (spot task_name n js.tasks)) refl (in_use n js.
         → TaskDropped js n (cond {A = Result (Unit {0}) DropFault × Jobs} b (cond u (Err InUse, js) (Ok tt, without_task js n)) (Err Unknown, js)).0
     go true eb true eu =
         record {
-          unknown = (λ e. absurd (let z : ◌≡◌ {A = ℕ} 0 1 = cc in omega arith), λ never. absurd (never (held_spot task_name n js.tasks eb)));
+          unknown = (λ e. absurd cc, λ never. absurd (never (held_spot task_name n js.tasks eb)));
           in_use = (λ e. (held_spot task_name n js.tasks eb, used n js.messages eu), λ x. refl);
         }
     go true eb false eu =
         record {
-          unknown = (λ e. absurd (let z : ◌≡◌ {A = ℕ} 0 1 = cc in omega arith), λ never. absurd (never (held_spot task_name n js.tasks eb)));
-          in_use = (λ e. absurd (let z : ◌≡◌ {A = ℕ} 0 1 = cc in omega arith), λ x. absurd (both_ways (in_use n js.messages) eu (in_used n js.messages x.1.0 x.1.1 x.1.2)));
+          unknown = (λ e. absurd cc, λ never. absurd (never (held_spot task_name n js.tasks eb)));
+          in_use = (λ e. absurd cc, λ x. absurd (both_ways (in_use n js.messages) eu (in_used n js.messages x.1.0 x.1.1 x.1.2)));
         }
     go false eb u eu =
         record {
           unknown = (λ e x. fresh_apart task_name n js.tasks eb x.0 x.1 x.2, λ never. refl);
-          in_use = (λ e. absurd (let z : ◌≡◌ {A = ℕ} 0 1 = cc in omega arith), λ x. absurd (fresh_apart task_name n js.tasks eb x.0.0 x.0.1 x.0.2));
+          in_use = (λ e. absurd cc, λ x. absurd (fresh_apart task_name n js.tasks eb x.0.0 x.0.1 x.0.2));
         }
 
 pub message_dropping : (js : Jobs) (n : ℕ) → MessageDropped js n (drop_message js n).0
@@ -68,11 +68,11 @@ message_dropping js n = go (is_some (spot message_name n js.messages)) refl
     go : (b : Bool) → is_some (spot message_name n js.messages) ≡ b → MessageDropped js n (cond {A = Result (Unit {0}) DropFault × Jobs} b (Ok tt, without_message js n) (Err Unknown, js)).0
     go true eb =
         record {
-          unknown = (λ e. absurd (let z : ◌≡◌ {A = ℕ} 0 1 = cc in omega arith), λ never. absurd (never (held_spot message_name n js.messages eb)));
-          free = λ e. let z : ◌≡◌ {A = ℕ} 0 1 = cc in omega arith;
+          unknown = (λ e. absurd cc, λ never. absurd (never (held_spot message_name n js.messages eb)));
+          free = λ e. cc;
         }
     go false eb =
         record {
           unknown = (λ e x. fresh_apart message_name n js.messages eb x.0 x.1 x.2, λ never. refl);
-          free = λ e. let z : ◌≡◌ {A = ℕ} 0 1 = cc in omega arith;
+          free = λ e. cc;
         }

@@ -36,7 +36,7 @@ step_stops Early true x next here later e is = (subst Early (some_same x e is) h
 step_stops Early false x next here later e is = later e is
 
 end_stops : {E : Type 0} (Early : E → Type 0) → Stops Early (λ rest. rest)
-end_stops Early e is = let z : ◌≡◌ {A = ℕ} 0 1 = cc in absurd (omega arith)
+end_stops Early e is = cc
 
 task_stops : (nodes : ℕ) (js : Jobs) (t : Task) → Stops EarlyTask (task_checks nodes js t)
 task_stops nodes js t =
@@ -83,7 +83,7 @@ module _ (g : Setting) (js : Jobs) (m : Message) where
       go : (b : Bool) → cond b (Some message_fault.Full) None ≡ Some e
           → EarlyMessage e × ((rest : Task → Task → List ℕ → Option MessageFault) → cond b (Some message_fault.Full) (rest s d r) ≡ Some e)
       go true x = (subst EarlyMessage (some_same message_fault.Full e x) tt, λ rest. x)
-      go false x = let z : ◌≡◌ {A = ℕ} 0 1 = cc in absurd (omega arith)
+      go false x = cc
 
   ends_stops : (s d : Option Task) → MessageStops (ends_checks g js m s d)
   ends_stops None d e is = (subst EarlyMessage (some_same message_fault.Ends e is) tt, λ rest. is)
@@ -141,8 +141,8 @@ task_place_early g js t clean = (
 )
   where
     none_first : (e : TaskFault) (o : Option ℕ) → (task_placed js t None o).0 ≡ Err (placing.Offer e) → ⊥
-    none_first e None is = let z : ◌≡◌ {A = ℕ} 0 1 = cc in omega arith
-    none_first e (Some v) is = let z : ◌≡◌ {A = ℕ} 0 1 = cc in omega arith
+    none_first e None is = cc
+    none_first e (Some v) is = cc
 
     refused : (e : TaskFault) (o : Option ℕ) → (task_placed js t (task_checks g.network.nodes js (task_at t 0) None) o).0 ≡ Err (placing.Offer e)
         → task_checks g.network.nodes js (task_at t 0) None ≡ None → ⊥
@@ -161,8 +161,8 @@ message_place_early g most few laws js m clean = (
 )
   where
     none_first : (e : MessageFault) (o : Option ℕ) → (message_placed js m None o).0 ≡ Err (placing.Offer e) → ⊥
-    none_first e None is = let z : ◌≡◌ {A = ℕ} 0 1 = cc in omega arith
-    none_first e (Some v) is = let z : ◌≡◌ {A = ℕ} 0 1 = cc in omega arith
+    none_first e None is = cc
+    none_first e (Some v) is = cc
 
     refused : (e : MessageFault) (o : Option ℕ) → (message_placed js m (message_checks g js (message_at m 0) (λ s d r. None)) o).0 ≡ Err (placing.Offer e)
         → message_checks g js (message_at m 0) (λ s d r. None) ≡ None → ⊥

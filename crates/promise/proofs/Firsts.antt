@@ -97,10 +97,10 @@ not_before o m e = record { instants = grind (arith, nat_tests); names = λ a. g
 -- the sooner of two is none where both are, and else one of them
 sooner_none : (a b : Option Meeting) → sooner a b ≡ None → (a ≡ None) × (b ≡ None)
 sooner_none None b e = (refl, e)
-sooner_none (Some a) None e = let z : ◌≡◌ {A = ℕ} 0 1 = cc in absurd (omega arith)
+sooner_none (Some a) None e = cc
 sooner_none (Some a) (Some b) e =
     cond_both (before b a) (Some b) (Some a) (λ o. o ≡ None → (Some a ≡ None) × (Some b ≡ None))
-    (λ _ is. let z : ◌≡◌ {A = ℕ} 0 1 = cc in absurd (omega arith)) (λ _ is. let z : ◌≡◌ {A = ℕ} 0 1 = cc in absurd (omega arith)) e
+    (λ _ is. cc) (λ _ is. cc) e
 
 sooner_one : (a b : Option Meeting) (m : Meeting) → sooner a b ≡ Some m → (a ≡ Some m) ⊎ (b ≡ Some m)
 sooner_one None b m e = inr e
@@ -117,8 +117,8 @@ same_not a o m e h = let s : a ≡ o = cc in subst (λ (x : Meeting). before x m
 
 -- where the sooner of two is not before m, neither is
 sooner_least : (a b : Option Meeting) (m : Meeting) → NoneBefore (sooner a b) m → NoneBefore a m × NoneBefore b m
-sooner_least None b m h = (λ o e. let z : ◌≡◌ {A = ℕ} 0 1 = cc in absurd (omega arith), h)
-sooner_least (Some a) None m h = (h, λ o e. let z : ◌≡◌ {A = ℕ} 0 1 = cc in absurd (omega arith))
+sooner_least None b m h = (λ o e. cc, h)
+sooner_least (Some a) None m h = (h, λ o e. cc)
 sooner_least (Some a) (Some b) m h =
     cond_both (before b a) (Some b) (Some a) (λ o. NoneBefore o m → NoneBefore (Some a) m × NoneBefore (Some b) m)
     (λ t k. (λ o e. same_not a o m e (before_after b a m t (k b refl)), k))
@@ -131,7 +131,7 @@ none_from best [] e = (e, λ m k. in_nil (Some m) k)
 none_from best (x ∷ xs) e =
     let r = none_from (sooner best x) xs e in
     let s = sooner_none best x r.0 in
-    (s.0, λ m k. ⊎_elim (λ is. let none = s.1 in let z : ◌≡◌ {A = ℕ} 0 1 = cc in omega arith) (λ j. r.1 m j) (in_cases x (Some m) xs k))
+    (s.0, λ m k. ⊎_elim (λ is. let none = s.1 in cc) (λ j. r.1 m j) (in_cases x (Some m) xs k))
 
 -- the earliest is in hand or in the list
 one_from : (best : Option Meeting) (xs : List (Option Meeting)) (m : Meeting) → earliest_from best xs ≡ Some m → (best ≡ Some m) ⊎ In (Some m) xs
@@ -154,7 +154,7 @@ earliest_none xs e = (none_from None xs e).1
 
 -- the earliest is one of the list
 pub earliest_in : (xs : List (Option Meeting)) (m : Meeting) → earliest_from None xs ≡ Some m → In (Some m) xs
-earliest_in xs m e = ⊎_elim (λ is. let z : ◌≡◌ {A = ℕ} 0 1 = cc in absurd (omega arith)) (λ k. k) (one_from None xs m e)
+earliest_in xs m e = ⊎_elim (λ is. cc) (λ k. k) (one_from None xs m e)
 
 -- and none of the list is before it
 pub earliest_least : (xs : List (Option Meeting)) (m : Meeting) → earliest_from None xs ≡ Some m → (o : Meeting) → In (Some o) xs → before o m ≡ false

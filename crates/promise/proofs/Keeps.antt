@@ -31,7 +31,7 @@ ok_of o js after e = ap (λ x. (offered x js after).0) e
 
 clear_none : {E : Type 0} (o : Option E) → clear o ≡ true → o ≡ None
 clear_none None e = refl
-clear_none (Some x) e = let z : ◌≡◌ {A = ℕ} 0 1 = cc in absurd (omega arith)
+clear_none (Some x) e = cc
 
 -- a task that no check refuses leaves the plan clean
 pub task_taken : (g : Setting) (js : Jobs) (t : Task) → Clean g js → task_refusal g.network.nodes js t ≡ None → Clean g (with_task js t)

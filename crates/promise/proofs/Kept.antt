@@ -25,7 +25,7 @@ clear_found {E} refusal n v e =
   where
     none : (o : Option E) → clear o ≡ true → o ≡ None
     none None e = refl
-    none (Some x) e = let z : ◌≡◌ {A = ℕ} 0 1 = cc in absurd (omega arith)
+    none (Some x) e = cc
 
 either : {E : Type 0} (P : Jobs → Type 0) (o : Option E) (js after : Jobs) → P js → (o ≡ None → P after) → P (offered o js after).1
 either P None js after here taken = taken refl

@@ -35,16 +35,16 @@ not_late : (v : ℤ) (t a : ℕ) → lateness (Some v) ≡ None → v ≤ℤ (po
 not_late v t a e h = go (lt_z v (pos 0)) refl e
   where
     go : (b : Bool) → lt_z v (pos 0) ≡ b → cond b (Some v) None ≡ None → a ≤ t
-    go true is x = let z : ◌≡◌ {A = ℕ} 0 1 = cc in absurd (omega arith)
+    go true is x = cc
     go false is x = grind (arith, ints)
 
 pub below : (o : Option ℤ) (v : ℤ) → lateness o ≡ Some v → (o ≡ Some v) × (lt_z v (pos 0) ≡ true)
-below None v e = let z : ◌≡◌ {A = ℕ} 0 1 = cc in absurd (omega arith)
+below None v e = cc
 below (Some w) v e = go (lt_z w (pos 0)) refl e
   where
     go : (b : Bool) → lt_z w (pos 0) ≡ b → cond b (Some w) None ≡ Some v → (Some w ≡ Some v) × (lt_z v (pos 0) ≡ true)
     go true is x = let same : w ≡ v = cc in (x, subst (λ z. lt_z z (pos 0) ≡ true) same is)
-    go false is x = let z : ◌≡◌ {A = ℕ} 0 1 = cc in absurd (omega arith)
+    go false is x = cc
 
 too_late : (v : ℤ) (t a : ℕ) → lt_z v (pos 0) ≡ true → v ≡ (pos t -ℤ pos a) → a ≤ t → ⊥
 too_late v t a neg e le = grind (arith, ints)

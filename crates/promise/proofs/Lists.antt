@@ -16,11 +16,11 @@ module _ {X : Type 0} where
   in_there x y xs (i, e) = (suc i, e)
 
   pub in_nil : (y : X) → In y [] → ⊥
-  in_nil y (i, e) = let z : ◌≡◌ {A = ℕ} 0 1 = cc in omega arith
+  in_nil y (i, e) = cc
 
   -- a member is the first, or one of the rest
   pub in_cases : (x y : X) (xs : List X) → In y (x ∷ xs) → (y ≡ x) ⊎ In y xs
-  in_cases x y xs (zero, e) = inl (cc)
+  in_cases x y xs (zero, e) = inl cc
   in_cases x y xs (suc i, e) = inr (i, e)
 
   pub in_left : (y : X) (xs ys : List X) → In y xs → In y (xs ++ ys)
@@ -76,7 +76,7 @@ module _ {X : Type 0} (name : X → ℕ) where
 
   -- what a name finds is a member that has it
   pub named_in : (n : ℕ) (x : X) (xs : List X) → named name n xs ≡ Some x → In x xs × (name x ≡ n)
-  named_in n x [] e = let z : ◌≡◌ {A = ℕ} 0 1 = cc in absurd (omega arith)
+  named_in n x [] e = cc
   named_in n x (y ∷ ys) e =
       cond_both (eqb (name y) n) (Some y) (named name n ys) (λ o. o ≡ Some x → In x (y ∷ ys) × (name x ≡ n))
       (λ t is. let same : x ≡ y = cc in (in_here y x ys same, ap name same ∙ eqb-true (name y) n t))

@@ -91,8 +91,8 @@ messages_sound g ts ms = held_sound (held_message g ts) (message_takes_sound g t
 
 pub same_place_true : (p q : Place) → same_place p q ≡ true → p ≡ q
 same_place_true (Core a) (Core b) e = ap core (eqb-true a b e)
-same_place_true (Core a) (Link b) e = let z : ◌≡◌ {A = ℕ} 0 1 = cc in absurd (omega arith)
-same_place_true (Link a) (Core b) e = let z : ◌≡◌ {A = ℕ} 0 1 = cc in absurd (omega arith)
+same_place_true (Core a) (Link b) e = cc
+same_place_true (Link a) (Core b) e = cc
 same_place_true (Link a) (Link b) e = ap link (eqb-true a b e)
 
 pub same_place_refl : (p : Place) → same_place p p ≡ true
@@ -101,12 +101,12 @@ same_place_refl (Link a) = eq-eqb a a refl
 
 -- an option that a function was put on comes from one
 mapped_some : {A B : Type 0} (f : A → B) (o : Option A) (b : B) → option_map f o ≡ Some b → (a : A) × (o ≡ Some a) × (f a ≡ b)
-mapped_some f None b e = let z : ◌≡◌ {A = ℕ} 0 1 = cc in absurd (omega arith)
+mapped_some f None b e = cc
 mapped_some f (Some a) b e = (a, refl, cc)
 
 mapped_none : {A B : Type 0} (f : A → B) (o : Option A) → option_map f o ≡ None → o ≡ None
 mapped_none f None e = refl
-mapped_none f (Some a) e = let z : ◌≡◌ {A = ℕ} 0 1 = cc in absurd (omega arith)
+mapped_none f (Some a) e = cc
 
 -- what two holds share first
 record FirstShared (o k : Option Span) (n : ℕ) : Type 0 where
@@ -120,8 +120,8 @@ record FirstShared (o k : Option Span) (n : ℕ) : Type 0 where
 
 -- an instant that is told as shared is the first of all time
 shared_some : (o k : Option Span) (n : ℕ) → SoundHold o → SoundHold k → shared o k ≡ Some n → FirstShared o k n
-shared_some None k n so sk e = let z : ◌≡◌ {A = ℕ} 0 1 = cc in absurd (omega arith)
-shared_some (Some h) None n so sk e = let z : ◌≡◌ {A = ℕ} 0 1 = cc in absurd (omega arith)
+shared_some None k n so sk e = cc
+shared_some (Some h) None n so sk e = cc
 shared_some (Some h) (Some k) n so sk e =
     let f : IsFirst h k (Some n) = subst (IsFirst h k) e (first_is h k (so h refl) (sk k refl)) in
     record { one = h; two = k; one_is = refl; two_is = refl; busy_one = f.0; busy_two = f.1; least = f.2 }
@@ -139,7 +139,7 @@ pub met_some : (name : ℕ) (x y : Take) (m : Meeting) → Sound x → Sound y �
 met_some name x y m sx sy e =
     cond_both (same_place x.place y.place) (option_map (at_instant name x.place) (shared x.hold y.hold)) None (λ o. o ≡ Some m → MetFirst name x y m)
     (λ t is. at (same_place_true x.place y.place t) (mapped_some (at_instant name x.place) (shared x.hold y.hold) m is))
-    (λ _ is. let z : ◌≡◌ {A = ℕ} 0 1 = cc in absurd (omega arith))
+    (λ _ is. cc)
     e
   where
     at : x.place ≡ y.place → (n : ℕ) × (shared x.hold y.hold ≡ Some n) × (at_instant name x.place n ≡ m) → MetFirst name x y m

@@ -211,12 +211,12 @@ module _ (g : Setting) (most : ℕ) (few : most ≤ 64) (laws : Lawful most g.ne
           }
         where
           no_err : (e : MessageFault) → ◌≡◌ {A = Result (Unit {0}) MessageFault} (Ok tt) (Err e) → ⊥
-          no_err e x = let z : ◌≡◌ {A = ℕ} 0 1 = cc in omega arith
+          no_err e x = cc
       go None (Some x) is_v is_o =
           let f = first_is x (met_is (Some x) is_o) in
           record {
             exact = (λ _. meeting_breaks x f, λ _. (message_fault.Meets x, refl));
-            taken = λ k. absurd (let z : ◌≡◌ {A = ℕ} 0 1 = cc in omega arith);
+            taken = λ k. absurd cc;
             why = λ e k. let same : message_fault.Meets x ≡ e = cc in subst (MessageWhy g js m s d r) same (on is_v, f);
           }
       go (Some v) o is_v is_o =
@@ -224,6 +224,6 @@ module _ (g : Setting) (most : ℕ) (few : most ≤ 64) (laws : Lawful most g.ne
           let neg = (below (message_slack g.network.delay s d m (length r)) v is_v).1 in
           record {
             exact = (λ _. late_breaks_it v is_v, λ _. (message_fault.Late v, refl));
-            taken = λ k. absurd (let z : ◌≡◌ {A = ℕ} 0 1 = cc in omega arith);
+            taken = λ k. absurd cc;
             why = λ e k. let same : message_fault.Late v ≡ e = cc in subst (MessageWhy g js m s d r) same (least, neg);
           }

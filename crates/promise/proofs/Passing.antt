@@ -17,13 +17,13 @@ use Rattle.promise.proofs.Lists.{fresh_apart}
 
 -- a check that answers nothing was passed
 step : {E : Type 0} (b : Bool) (e : E) (rest : Option E) → cond b (Some e) rest ≡ None → (b ≡ false) × (rest ≡ None)
-step true e rest x = let z : ◌≡◌ {A = ℕ} 0 1 = cc in absurd (omega arith)
+step true e rest x = cc
 step false e rest x = (refl, x)
 
 -- the same where the test is of what is well
 good : {E : Type 0} (b : Bool) (e : E) (rest : Option E) → cond b rest (Some e) ≡ None → (b ≡ true) × (rest ≡ None)
 good true e rest x = (refl, x)
-good false e rest x = let z : ◌≡◌ {A = ℕ} 0 1 = cc in absurd (omega arith)
+good false e rest x = cc
 
 module _ {X : Type 0} (name : X → ℕ) (n : ℕ) (xs : List X) (e : name_taken name n xs ≡ false) where
   pub name_some : 0 < n
@@ -65,7 +65,7 @@ module _ (g : Setting) (js : Jobs) (m : Message) (rest : Task → Task → List 
   routed : (s d : Task) (o : Option (List ℕ)) → name_taken message_name m.name js.messages ≡ false → task_named js.tasks m.source ≡ Some s
       → task_named js.tasks m.destination ≡ Some d → message_timely s m ≡ true → g.network.route s.core d.core ≡ o
       → routed_checks js o (rest s d) ≡ None → Passes g js m rest
-  routed s d None fresh from to timely along e = let z : ◌≡◌ {A = ℕ} 0 1 = cc in absurd (omega arith)
+  routed s d None fresh from to timely along e = cc
   routed s d (Some r) fresh from to timely along e =
       let f = step (leb 128 (length js.messages)) message_fault.Full (rest s d r) e in
       record {
@@ -87,8 +87,8 @@ module _ (g : Setting) (js : Jobs) (m : Message) (rest : Task → Task → List 
 
   ended : (s d : Option Task) → name_taken message_name m.name js.messages ≡ false → task_named js.tasks m.source ≡ s
       → task_named js.tasks m.destination ≡ d → ends_checks g js m s d rest ≡ None → Passes g js m rest
-  ended None d fresh from to e = let z : ◌≡◌ {A = ℕ} 0 1 = cc in absurd (omega arith)
-  ended (Some s) None fresh from to e = let z : ◌≡◌ {A = ℕ} 0 1 = cc in absurd (omega arith)
+  ended None d fresh from to e = cc
+  ended (Some s) None fresh from to e = cc
   ended (Some s) (Some d) fresh from to e =
       let t = good (message_timely s m) message_fault.Times _ e in
       routed s d (g.network.route s.core d.core) fresh from to t.0 refl t.1

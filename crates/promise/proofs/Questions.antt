@@ -41,7 +41,7 @@ module _ {X : Type 0} (name : X → ℕ) (xs : List X) (H : X → ℕ → Type 0
   -- the told run has the place, and a run that has it is the one that is told
   told_some : (o : Option (ℕ × ℕ)) → HolderIs hs p n o → (a k : ℕ) → (o ≡ Some (a, k)) ↔ ((x : X) × In x xs × (name x ≡ a) × H x k)
   told_some None h a k =
-      (λ e. let z : ◌≡◌ {A = ℕ} 0 1 = cc in absurd (omega arith), λ x. absurd (h (name x.0) k (to x.0 k x.1 x.3)))
+      (λ e. cc, λ x. absurd (h (name x.0) k (to x.0 k x.1 x.3)))
   told_some (Some t) h a k =
       (λ e. let same : t ≡ (a, k) = cc in from a k (subst (λ (u : ℕ × ℕ). Holding hs p n u.0 u.1) same h), λ x. back x (from t.0 t.1 h))
     where
@@ -55,14 +55,14 @@ module _ {X : Type 0} (name : X → ℕ) (xs : List X) (H : X → ℕ → Type 0
   told_none : (o : Option (ℕ × ℕ)) → HolderIs hs p n o → (o ≡ None) ↔ ((x : X) (k : ℕ) → In x xs → H x k → ⊥)
   told_none None h = (λ _ x k i u. h (name x) k (to x k i u), λ _. refl)
   told_none (Some t) h =
-      (λ e. let z : ◌≡◌ {A = ℕ} 0 1 = cc in absurd (omega arith), λ never. absurd (nobody never (from t.0 t.1 h)))
+      (λ e. cc, λ never. absurd (nobody never (from t.0 t.1 h)))
     where
       nobody : ((x : X) (k : ℕ) → In x xs → H x k → ⊥) → (x : X) × In x xs × (name x ≡ t.0) × H x t.1 → ⊥
       nobody never (x, i, e, u) = never x t.1 i u
 
 -- an answer past the check of the number is what was found
 found : {X : Type 0} (b : Bool) (e : PlaceFault) (x y : X) → cond b (Err e) (Ok x) ≡ Ok y → x ≡ y
-found true e x y is = let z : ◌≡◌ {A = ℕ} 0 1 = cc in absurd (omega arith)
+found true e x y is = cc
 found false e x y is = cc
 
 -- and the check alone refuses
@@ -71,7 +71,7 @@ refuses {X = X} a b x e = (go (leb a b) refl, λ le. cond-true (leb a b) (Err no
   where
     go : (t : Bool) → leb a b ≡ t → cond t (Err no_place) (Ok x) ≡ Err e → a ≤ b
     go true is _ = leb-true a b is
-    go false is err = let z : ◌≡◌ {A = ℕ} 0 1 = cc in absurd (omega arith)
+    go false is err = cc
 
 -- ---- cores
 
@@ -240,7 +240,7 @@ slack_told g most few laws js clean n =
     }
   where
     inside : (o : Option ℤ) (v : ℤ) → ok_or o Unknown ≡ Ok v → o ≡ Some v
-    inside None v e = let z : ◌≡◌ {A = ℕ} 0 1 = cc in absurd (omega arith)
+    inside None v e = cc
     inside (Some w) v e = cc
 
     clash : (e : DropFault) → slack g js n ≡ Err e → (m : Message) → In m js.messages → m.name ≡ n → ⊥
@@ -249,4 +249,4 @@ slack_told g most few laws js clean n =
         subst (λ (a : ℕ). named message_name a js.messages ≡ Some m) same (in_named message_name m js.messages clean.message_names i) in
         let v = has_slack g most few laws js clean m i in
         let ok : slack g js n ≡ Ok v.0 = ap (λ (o : Option Message). ok_or (slack_held g js o) Unknown) at ∙ ap (λ (o : Option ℤ). ok_or o Unknown) v.1 in
-        let z : ◌≡◌ {A = ℕ} 0 1 = cc in omega arith
+        cc

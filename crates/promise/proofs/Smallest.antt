@@ -22,11 +22,11 @@ use Rattle.promise.proofs.Tasks as tasks
 -- an offer is taken exactly where nothing refuses it
 taken_clear : {E : Type 0} (o : Option E) (js after : Jobs) → (offered o js after).0 ≡ Ok tt → clear o ≡ true
 taken_clear None js after e = refl
-taken_clear (Some x) js after e = let z : ◌≡◌ {A = ℕ} 0 1 = cc in absurd (omega arith)
+taken_clear (Some x) js after e = cc
 
 clear_taken : {E : Type 0} (o : Option E) (js after : Jobs) → clear o ≡ true → (offered o js after).0 ≡ Ok tt
 clear_taken None js after e = refl
-clear_taken (Some x) js after e = let z : ◌≡◌ {A = ℕ} 0 1 = cc in absurd (omega arith)
+clear_taken (Some x) js after e = cc
 
 -- the answer by what a search found
 abbrev by_found : {E : Type 0} → E → Option ℕ → Result ℕ E
@@ -47,7 +47,7 @@ module _ {E : Type 0} (none : E) (Fits : ℕ → Type 0) (test : ℕ → Bool) (
           go (inr f) = f
 
       told : (v : ℕ) (o : Option ℕ) → Found test n 0 o → by_found none o ≡ Ok v → Fits v × ((w : ℕ) → w < v → Fits w → ⊥)
-      told v None f e = let z : ◌≡◌ {A = ℕ} 0 1 = cc in absurd (omega arith)
+      told v None f e = cc
       told v (Some x) (a, b, c, f) e =
           let same : x ≡ v = cc in
           (to v (omega arith) (subst (λ y. test y ≡ true) same c), λ w l fit. both_ways (test w) (f w (omega arith) (omega arith)) (from w fit).1)
@@ -59,7 +59,7 @@ module _ {E : Type 0} (none : E) (Fits : ℕ → Type 0) (test : ℕ → Bool) (
 
       empty : (o : Option ℕ) → Found test n 0 o → by_found none o ≡ Err none → (v : ℕ) → Fits v → ⊥
       empty None f e v fit = let k = from v fit in both_ways (test v) (f v (omega arith) (omega (arith, k.0))) k.1
-      empty (Some x) f e v fit = let z : ◌≡◌ {A = ℕ} 0 1 = cc in omega arith
+      empty (Some x) f e v fit = cc
 
       back_none : ((v : ℕ) → Fits v → ⊥) → by_found none (first_from test n 0) ≡ Err none
       back_none never = ap (by_found none) (sym (search_none test n (λ v l. failing v (never v) l)))

@@ -26,7 +26,7 @@ span_made g t h = let b = h.some in let c = h.fits in record { some = omega arit
 
 -- what stands at a place of the takes of a route
 along_at : (hop : ℕ) (r : List ℕ) (start p w i : ℕ) (y : Take) → slice_get (along hop r start p w) i ≡ Some y → (l : ℕ) × (slice_get r i ≡ Some l)
-along_at hop [] start p w i y e = let z : ◌≡◌ {A = ℕ} 0 1 = cc in absurd (omega arith)
+along_at hop [] start p w i y e = cc
 along_at hop (x ∷ xs) start p w zero y e = (x, refl)
 along_at hop (x ∷ xs) start p w (suc i) y e = along_at hop xs (start + hop) p w i y e
 
@@ -48,7 +48,7 @@ module _ (g : Setting) (most : ℕ) (few : most ≤ 64) (laws : Lawful most g.ne
   take_at i l at = (i, packet_holds g most few laws s d m ts tm r e i l at)
 
   nth_below : (xs : List ℕ) (i l : ℕ) → slice_get xs i ≡ Some l → (i < length xs) × (get_or xs i 0 ≡ l)
-  nth_below [] i l at = let z : ◌≡◌ {A = ℕ} 0 1 = cc in absurd (omega arith)
+  nth_below [] i l at = cc
   nth_below (x ∷ xs) zero l at = (omega arith, cc)
   nth_below (x ∷ xs) (suc i) l at = let k = nth_below xs i l at in (omega (arith, k.0), k.1)
 

@@ -192,11 +192,11 @@ module _ (g : Setting) (js : Jobs) (t : Task) (clean : Clean g js) (p : TaskPass
           }
         where
           no_err : (e : TaskFault) → ◌≡◌ {A = Result (Unit {0}) TaskFault} (Ok tt) (Err e) → ⊥
-          no_err e x = let z : ◌≡◌ {A = ℕ} 0 1 = cc in omega arith
+          no_err e x = cc
       go (Some m) is =
           let f = first_is m is in
           record {
             exact = (λ x. breaks m f, λ _. (task_fault.Meets m, refl));
-            taken = λ x. absurd (let z : ◌≡◌ {A = ℕ} 0 1 = cc in omega arith);
+            taken = λ x. absurd cc;
             why = λ e x. let same : task_fault.Meets m ≡ e = cc in subst (TaskWhy js t) same f;
           }

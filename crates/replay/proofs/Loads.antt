@@ -14,7 +14,7 @@ use Rattle.promise.proofs.Lists.{append_in, in_cases, in_nil}
 use Rattle.replay.specs.Promise.{LoadTold, PartTold, Taken, Try, if_taken, message_try, part_tries, task_try, turn_tries}
 
 nth_left : {X : Type 0} (xs ys : List X) (n : ℕ) (x : X) → slice_get xs n ≡ Some x → slice_get (xs ++ ys) n ≡ Some x
-nth_left [] ys n x e = let z : ◌≡◌ {A = ℕ} 0 1 = cc in absurd (omega arith)
+nth_left [] ys n x e = cc
 nth_left (y ∷ xs) ys zero x e = e
 nth_left (y ∷ xs) ys (suc n) x e = nth_left xs ys n x e
 
@@ -50,12 +50,12 @@ module _ {X E : Type 0} (make : Jobs → X → Result (Unit {0}) E → Try) (ref
             as_many = let m = n.as_many in omega arith;
             each = λ y i. ⊎_elim (λ s. (js, x, s)) (λ j. n.each y j) (in_cases (make js x (Ok tt)) y (tries (held js x) xs) i);
           }
-      go (Some f) is next = let z : ◌≡◌ {A = ℕ} 0 1 = cc in absurd (omega arith)
+      go (Some f) is next = cc
 
   -- where they answer a refusal, the try at its place was refused for that
   refused_at : (js : Jobs) (k : ℕ) (xs : List X) (p : ℕ × E) → (in_turn refusal held js k xs).0 ≡ Err p
       → (n : ℕ) × (b : Jobs) × (x : X) × (p.0 ≡ k + n) × (slice_get (tries js xs) n ≡ Some (make b x (Err p.1)))
-  refused_at js k [] p e = let z : ◌≡◌ {A = ℕ} 0 1 = cc in absurd (omega arith)
+  refused_at js k [] p e = cc
   refused_at js k (x ∷ xs) p e = go (refusal js x) e (refused_at (held js x) (k + 1) xs p)
     where
       go : (o : Option E) → (on_taken k o js (in_turn refusal held (held js x) (k + 1) xs)).0 ≡ Err p

@@ -99,7 +99,7 @@ module _ (g : Setting) (most : ℕ) (few : most ≤ 64) (laws : Lawful most g.ne
 
   -- a number that is not refused is below its count
   within : {r : Result (Option (ℕ × ℕ)) PlaceFault} {count number : ℕ} {o : Option (ℕ × ℕ)} → (count ≤ number → r ≡ Err no_place) → r ≡ Ok o → number < count
-  within {count = count} {number = number} refused ok = ⊎_elim (λ l. l) (λ h. let f = refused h in let z : ◌≡◌ {A = ℕ} 0 1 = cc in absurd (omega arith)) (cases_lt number count)
+  within {count = count} {number = number} refused ok = ⊎_elim (λ l. l) (λ h. let f = refused h in cc) (cases_lt number count)
 
   core_holds : (js : Jobs) (x n : ℕ) → Clean g js → (r : Result (Option (ℕ × ℕ)) PlaceFault) → core_holder g js x n ≡ r → Holds (CoreTold js x n) g.network.nodes x r
   core_holds js x n c (Ok o) e = (within (core_refused g js x n no_place).1 e, core_told g js c x n o e)
@@ -126,7 +126,7 @@ module _ (g : Setting) (most : ℕ) (few : most ≤ 64) (laws : Lawful most g.ne
   -- each answer of a list is that of its call, after the calls before it, and so is what is held then
   calls : (js : Jobs) → Clean g js → (asks : List Ask) (i : ℕ) (a : Ask) → slice_get asks i ≡ Some a
       → (r : Answer) × (slice_get (answers g js asks) i ≡ Some r) × Told g (held g js (take i asks)) a r × After g (held g js (take i asks)) a r (held g js (take (suc i) asks))
-  calls js c [] i a e = let z : ◌≡◌ {A = ℕ} 0 1 = cc in absurd (omega arith)
+  calls js c [] i a e = cc
   calls js c (b ∷ rest) zero a e =
       let same : b ≡ a = cc in
       ((ask g js a).0, ap (λ x. Some (ask g js x).0) same, told js c a, subst (λ x. After g js a (ask g js a).0 (ask g js x).1) (sym same) (after g js c a))

@@ -13,9 +13,9 @@ use Rattle.script.specs.Fields.{after, field, number, pair, then, unhexed, word_
 -- a text that begins with the front goes on with the rest
 pub after_some : (front text rest : List ℕ) → text ≡ front ++ rest → after front text ≡ Some rest
 after_some [] text rest e = ap Some e
-after_some (f ∷ front) [] rest e = absurd (let z : ◌≡◌ {A = ℕ} 0 1 = cc in omega arith)
+after_some (f ∷ front) [] rest e = absurd cc
 after_some (f ∷ front) (b ∷ text) rest e =
-    elim (eqb_tells f b) [ inl p ↦ rw p.0 (after_some front text rest (cc)) | inr p ↦ absurd (p.1 (cc)) ]
+    elim (eqb_tells f b) [ inl p ↦ rw p.0 (after_some front text rest cc) | inr p ↦ absurd (p.1 cc) ]
 
 -- any other text has nothing after the front
 pub after_none : (front text : List ℕ) → ((rest : List ℕ) → text ≡ front ++ rest → ⊥) → after front text ≡ None
@@ -74,7 +74,7 @@ pub field_unended : (most : ℕ) (text : List ℕ) → position (λ b. b == 32) 
 field_unended most text none = go (ltb (word_length text) (length text)) refl (sym (space_is text) ∙ none)
   where
     go : (t : Bool) → ltb (word_length text) (length text) ≡ t → cond t (Some (word_length text)) None ≡ None → field most text ≡ None
-    go true is e = let z : ◌≡◌ {A = ℕ} 0 1 = cc in absurd (omega arith)
+    go true is e = cc
     go false is e = rw is
 
 -- up to the first space stands the field's number, or none
@@ -83,7 +83,7 @@ field_ended most end text at = go (ltb (word_length text) (length text)) refl (s
   where
     go : (t : Bool) → ltb (word_length text) (length text) ≡ t → cond t (Some (word_length text)) None ≡ Some end → field most text ≡ then (number most (take end text)) (λ n. Some (n, drop (end + 1) text))
     go true is e = let same : word_length text ≡ end = cc in rw (is, same)
-    go false is e = let z : ◌≡◌ {A = ℕ} 0 1 = cc in absurd (omega arith)
+    go false is e = cc
 
 -- bytes in front of those that are left to read
 abbrev pub in_front : List ℕ → Option (List ℕ) → Option (List ℕ)
@@ -102,7 +102,7 @@ unhexed_odd (a ∷ (b ∷ rest)) h = rw (← unhexed_odd rest (λ e. h (omega ar
 -- a character that answers no digit has none
 pub no_digit : (o : Option ℕ) (n radix v : ℕ) → SomeIff o (n < radix) v → o ≡ None → radix ≤ n
 no_digit None n radix v h e = omega (arith, h)
-no_digit (Some x) n radix v h e = let z : ◌≡◌ {A = ℕ} 0 1 = cc in absurd (omega arith)
+no_digit (Some x) n radix v h e = cc
 
 -- the bytes that pairs of digits write
 abbrev pub pairs_read : List (List ℕ) → Option (List ℕ)
