@@ -1,12 +1,10 @@
--- What `find_map` and `fold` over a slice answer, where the closure computes a function of each item. Assumes nothing.
+-- What `find_map` over a slice answers, where the closure computes a function of each item. Assumes nothing.
 use Rattle.std.proofs.Common.{◌≡◌, ℕ, zero, suc, ◌+◌, ◌<◌, List, [], ◌∷◌, length, get_or, map, Some, None, Option, sym, refl, ap, ◌∙◌, subst, arith}
 use denote.Param.Members.{Mut}
 use Rattle.std.specs.Bool.{IsTrue}
 use Rattle.std.specs.Fn.{Called}
 use Rattle.std.specs.Option.{IsSomeAnd, MatchOption, option_map}
-use Rattle.std.specs.Iterator.{ActsAsOnTwo}
-use Rattle.std.specs.Iterator.Runs.{AllItemsGive, CallKeepsClosure, EveryRun, IsFirstToGive, ItemsMapTo, SomeRun, WholeRun}
-use Rattle.std.specs.List.{fold}
+use Rattle.std.specs.Iterator.Runs.{AllItemsGive, CallKeepsClosure, EveryRun, IsFirstToGive, ItemsMapTo, SomeRun}
 use Rattle.jobs.specs.Holding.{first_some, or_else}
 
 module _ {X Y : Type 0} (h : X → Option Y) where
@@ -64,19 +62,3 @@ module _ {A B R F : Type 0} (v : A → B) (g : Mut F (A × Unit {0}) (Option R))
       (first_answers h y (rest p.from) i (omega (arith, m.0, first.1))
       (λ d. answer_at (p.at i) _ (Some y) (m.2 i d first.1) called.0)
       (λ k d e. answer_at (p.at k) _ None (m.2 k d (omega (arith, first.1))) (called.1 k e))))
-
--- a fold over what a list was made of
-pub fold_map : {A B C : Type 0} (v : A → B) (k : C → B → C) (a : C) (xs : List A) → fold (λ c x. k c (v x)) a xs ≡ fold k a (map v xs)
-fold_map v k a [] = refl
-fold_map v k a (x ∷ xs) = fold_map v k (k a (v x)) xs
-
--- `fold` answers the fold of what the closure computes
-pub folded_is : {A B C F : Type 0} (v : A → B) (g : Mut F (C × (A × Unit {0})) C) (f : F) (k : C → B → C)
-    → ((c : C) (x : A) (d : C) (q : F) → Called g f (c, (x, tt)) d q → (q ≡ f) × (d ≡ k c (v x)))
-    → {S : Type 0} {steps : S → Option A → S → Type 0} (rest : S → List B) (s : S) (xs : List B) (a r : C) → EveryRun steps (λ p. ItemsMapTo p v (rest p.from)) → rest s ≡ xs
-    → WholeRun steps s (λ p. (h : C → A → C) → ActsAsOnTwo g f h → r ≡ fold h a p.items)
-    → r ≡ fold k a xs
-folded_is v g f k calls rest s xs a r reads is (p, from, whole, folds) =
-    let m = reads p p.seen in
-    folds (λ c x. k c (v x)) (λ c x d q call. let t = calls c x d q call in (t.0, t.1)) ∙ fold_map v k a p.items
-    ∙ ap (fold k a) (m.4 whole ∙ ap rest from ∙ is)

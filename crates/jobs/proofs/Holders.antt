@@ -2,6 +2,7 @@
 use Rattle.std.proofs.Common.{◌≡◌, ℕ, zero, suc, ◌+◌, Bool, true, false, cond, List, [], ◌∷◌, map, Some, None, Option, sym, refl, ap, ◌∙◌, subst}
 use Rattle.std.specs.List.{slice_get}
 use Rattle.std.proofs.lemmas.Bool.{cond-true}
+use Rattle.std.proofs.lemmas.Option.{same_Some}
 use Rattle.holds.specs.Run.{RunAt, run}
 use Rattle.holds.specs.Span.{HoldsAt, Proper, Span}
 use Rattle.holds.proofs.Busy.{run_is}
@@ -107,11 +108,8 @@ module _ (p : Place) (n : ℕ) where
 
 -- ---- what tasks and messages take is fit
 
-some_same : {a b : Take} → Some a ≡ Some b → a ≡ b
-some_same e = cc
-
 task_fit : (t : Task) → AllFit (held_task t).takes
-task_fit t zero x e h is = spanned_proper t.phase t.period t.width h (ap (λ y. y.hold) (some_same e) ∙ is)
+task_fit t zero x e h is = spanned_proper t.phase t.period t.width h (ap (λ y. y.hold) (same_Some _ _ e) ∙ is)
 task_fit t (suc i) x e h is = cc
 
 mapped_fit : {X : Type 0} (f : X → HeldJob) (xs : List X) → ((x : X) → AllFit (f x).takes) → (i : ℕ) (j : HeldJob) → slice_get (map f xs) i ≡ Some j → AllFit j.takes
@@ -124,7 +122,7 @@ tasks_fit ts = mapped_fit held_task ts task_fit
 
 along_fit : (hop : ℕ) (r : List ℕ) (s p w : ℕ) → AllFit (along hop r s p w)
 along_fit hop [] s p w i x e h is = cc
-along_fit hop (l ∷ ls) s p w zero x e h is = spanned_proper s p w h (ap (λ y. y.hold) (some_same e) ∙ is)
+along_fit hop (l ∷ ls) s p w zero x e h is = spanned_proper s p w h (ap (λ y. y.hold) (same_Some _ _ e) ∙ is)
 along_fit hop (l ∷ ls) s p w (suc i) x e h is = along_fit hop ls (s + hop) p w i x e h is
 
 route_fit : (hop : ℕ) (o : Option (List ℕ)) (s p w : ℕ) → AllFit (on_route hop o s p w)

@@ -1,9 +1,9 @@
 -- Within the limits of tasks and messages every hold is there, and the least slack is the formula's.
-use Rattle.std.proofs.Common.{◌≡◌, ℕ, zero, suc, ◌+◌, ◌*◌, ◌%◌, ◌<◌, ◌≤◌, true, eqb, List, [], ◌∷◌, length, pos, ◌-ℤ◌, Some, None, sym, ap, ◌∙◌, ⊎_elim, suc-mul, mul-le-mul, arith}
+use Rattle.std.proofs.Common.{◌≡◌, ℕ, zero, suc, ◌+◌, ◌*◌, ◌%◌, ◌<◌, ◌≤◌, true, eqb, List, [], ◌∷◌, length, pos, ◌-ℤ◌, Some, ap, ◌∙◌, suc-mul, mul-le-mul, arith}
 use Rattle.std.specs.List.{slice_get}
 use Rattle.std.proofs.lemmas.Bool.Decides.{nat_tests}
-use Rattle.std.proofs.lemmas.Bool.{cond_both, cases_lt}
-use Rattle.std.proofs.lemmas.Option.{slice_get_past}
+use Rattle.std.proofs.lemmas.Bool.{cond_both}
+use Rattle.std.proofs.lemmas.Option.{slice_get_within}
 use Rattle.fabric.specs.Network.{Lawful}
 use Rattle.std.specs.Int.{◌∣◌}
 use Rattle.std.proofs.lemmas.Nat.Gcd.{dvd-zero}
@@ -53,10 +53,6 @@ at_place hop (x ∷ xs) start p w (suc i) l e =
     let later : start + hop + i * hop ≡ start + suc i * hop = omega (arith, suc-mul i hop) in
     at_place hop xs (start + hop) p w i l e ∙ ap (λ (n : ℕ). Some (link_take l (spanned n p w))) later
 
-inside : (r : List ℕ) (i l : ℕ) → slice_get r i ≡ Some l → i < length r
-inside r i l e =
-    ⊎_elim (λ lt. lt) (λ le. let none : None ≡ Some l = sym (slice_get_past r i le) ∙ e in cc) (cases_lt i (length r))
-
 pub packet_holds : (g : Setting) (most : ℕ) → most ≤ 64 → Lawful most g.network
     → (s d : Task) (m : Message) → task_timely s ≡ true → message_timely s m ≡ true
     → (r : List ℕ) → g.network.route s.core d.core ≡ Some r
@@ -66,7 +62,7 @@ packet_holds g most few laws s d m ts tm r e i l at =
     let h = timed s ts in
     let k = sent s m tm in
     let hop = g.network.delay in
-    let near : i * hop ≤ 4096 = omega (arith, mul-le-mul {n₁ = i} {m₁ = hop} {n₂ = 64} {m₂ = 64} (omega (arith, inside r i l at, laws.short s.core d.core r e)) laws.low_delay) in
+    let near : i * hop ≤ 4096 = omega (arith, mul-le-mul {n₁ = i} {m₁ = hop} {n₂ = 64} {m₂ = 64} (omega (arith, slice_get_within r i l at, laws.short s.core d.core r e)) laws.low_delay) in
     ap (λ o. slice_get (on_route hop o (leaves s m) s.period m.width) i) e
     ∙ at_place hop r (leaves s m) s.period m.width i l at
     ∙ ap (λ o. Some (link_take l o))

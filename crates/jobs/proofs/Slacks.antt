@@ -1,6 +1,7 @@
 -- The slack that the rule gives a held message is the least over all of its packets.
-use Rattle.std.proofs.Common.{◌≡◌, ℕ, ◌<◌, Bool, true, false, cond, ◌&&◌, ltb, leb, List, ℤ, Some, None, Option, sym, refl, subst, arith}
+use Rattle.std.proofs.Common.{◌≡◌, ℕ, ◌<◌, ◌&&◌, ltb, leb, List, ℤ, Some, None, Option, sym, refl, subst, arith}
 use Rattle.std.proofs.lemmas.Bool.{and_parts, ltb-true}
+use Rattle.std.proofs.lemmas.Option.{cond_some}
 use Rattle.holds.specs.Span.{Span}
 use Rattle.holds.specs.Slack.{Flow, LeastSlack, least_slack}
 use Rattle.holds.specs.Held.{flowing, spanned}
@@ -15,20 +16,15 @@ use Rattle.jobs.specs.Reading.{slack_of}
 use Rattle.jobs.specs.Slacks.{HeldSlack, routed_slack, slack_between, slack_held}
 use Rattle.jobs.specs.Takes.{task_hold, task_span}
 
--- what passes a test is what was tested
-passes : {X : Type 0} (b : Bool) (x y : X) → cond b (Some x) None ≡ Some y → (b ≡ true) × (x ≡ y)
-passes true x y e = (refl, cc)
-passes false x y e = cc
-
 flow_is : (a d p : ℕ) (f : Flow) → flowing a d p ≡ Some f → (record { arrival = a; due = d; period = p } ≡ f) × (0 < p)
 flow_is a d p f e =
-    let t = passes (leb a latest && (leb d latest && (ltb 0 p && leb p longest))) (record { arrival = a; due = d; period = p }) f e in
+    let t = cond_some (leb a latest && (leb d latest && (ltb 0 p && leb p longest))) (record { arrival = a; due = d; period = p }) f e in
     let p1 = and_parts (leb a latest) _ t.0 in
     let p2 = and_parts (leb d latest) _ p1.1 in
     (t.1, ltb-true 0 p (and_parts (ltb 0 p) (leb p longest) p2.1).0)
 
 span_is : (s p w : ℕ) (h : Span) → spanned s p w ≡ Some h → record { start = s; period = p; width = w } ≡ h
-span_is s p w h e = (passes (leb s latest && (ltb 0 w && (leb w p && leb p longest))) (record { start = s; period = p; width = w }) h e).1
+span_is s p w h e = (cond_some (leb s latest && (ltb 0 w && (leb w p && leb p longest))) (record { start = s; period = p; width = w }) h e).1
 
 -- a slack that is told is the least of its flow and reader
 pub least_told : (a d p : ℕ) (t : Task) (v : ℤ) → slack_of (flowing a d p) (task_hold t) ≡ Some v → LeastSlack (record { arrival = a; due = d; period = p }) (task_span t) v

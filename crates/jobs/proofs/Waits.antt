@@ -3,6 +3,7 @@ use Rattle.std.proofs.Common.{◌≡◌, ℕ, zero, suc, ◌+◌, ◌*◌, ◌�
 use Rattle.std.specs.List.{slice_get}
 use Rattle.std.specs.Option.{option_map}
 use Rattle.std.proofs.lemmas.Bool.{both_ways, cond_both, le-leb}
+use Rattle.std.proofs.lemmas.Option.{slice_get-map}
 use Rattle.holds.specs.First.{IsFirst, first}
 use Rattle.holds.specs.Held.{span, spanned}
 use Rattle.holds.specs.Limits.{latest, longest}
@@ -107,18 +108,13 @@ still_meets p q own held (Some w) same po ph least =
 
 -- ---- what is put off
 
-nth_map : {A B : Type 0} (f : A → B) (xs : List A) (i : ℕ) (x : A) → slice_get xs i ≡ Some x → slice_get (map f xs) i ≡ Some (f x)
-nth_map f [] i x e = cc
-nth_map f (y ∷ xs) zero x e = let same : y ≡ x = cc in ap (λ z. Some (f z)) same
-nth_map f (y ∷ xs) (suc i) x e = nth_map f xs i x e
-
 -- a take that still meets one of a held job keeps its job from being clear
 pub still_met : (xs : List Take) (hs : List HeldJob) (k i j : ℕ) (h : HeldJob) (x y : Take) (wait : Option ℕ)
     → slice_get hs k ≡ Some h → slice_get xs i ≡ Some x → slice_get h.takes j ≡ Some y → StillMeets x y wait → StillMet xs hs wait
 still_met xs hs k i j h x y None eh ex ey still =
-    λ n. met_all (put_off n x) y None (map (put_off n) xs) hs k i j h eh (nth_map (put_off n) xs i x ex) ey (still h.name n)
+    λ n. met_all (put_off n x) y None (map (put_off n) xs) hs k i j h eh (slice_get-map (put_off n) xs i ∙ ap (option_map (put_off n)) ex) ey (still h.name n)
 still_met xs hs k i j h x y (Some w) eh ex ey still =
-    λ n l. met_all (put_off n x) y None (map (put_off n) xs) hs k i j h eh (nth_map (put_off n) xs i x ex) ey (still h.name n l)
+    λ n l. met_all (put_off n x) y None (map (put_off n) xs) hs k i j h eh (slice_get-map (put_off n) xs i ∙ ap (option_map (put_off n)) ex) ey (still h.name n l)
 
 -- the same of takes that are told otherwise
 pub still_as : {xs ys : List Take} (hs : List HeldJob) (wait : Option ℕ) → xs ≡ ys → StillMet xs hs wait → StillMet ys hs wait
@@ -169,7 +165,7 @@ pub job_meets : {X : Type 0} (label : X → ℕ) (takes : X → List Take) (held
 job_meets label takes held own theirs job name one other wait e is (i, eo) (j, eh) still =
     let at = named_at label name held job e in
     still_met own (map (job_of label takes) held) at.0 i j (job_of label takes job) (stay_take one) (stay_take other) wait
-    (nth_map (job_of label takes) held at.0 job at.1) eo (subst (λ xs. slice_get xs j ≡ Some (stay_take other)) is eh) still
+    (slice_get-map (job_of label takes) held at.0 ∙ ap (option_map (job_of label takes)) at.1) eo (subst (λ xs. slice_get xs j ≡ Some (stay_take other)) is eh) still
 
 -- a later phase is the task put off
 task_later : (t : OpenTask) (v n : ℕ) → v + n ≤ latest → task_takes (task_at t (v + n)) ≡ map (put_off n) (task_takes (task_at t v))
