@@ -1,96 +1,73 @@
-use Rattle.std.proofs.Common.{◌+◌, ◌≤◌, map, is_some, Some, None, ap, ◌∙◌, ⊎_elim, arith}
+use Rattle.std.proofs.Common.{◌≡◌, ℕ, ◌+◌, ◌<◌, ◌≤◌, Bool, false, List, map, is_some, Some, None, Option, ap, ◌∙◌, ⊎_elim, arith}
 use Rattle.std.proofs.lemmas.Bool.{cases_lt}
+use Rattle.holds.specs.Search.{first_from}
+use Rattle.refusals.specs.declared.refusal.Meeting.{Meeting}
 use Rattle.jobs.specs.Boards.{setting_of}
 use Rattle.jobs.specs.Jobs.{Jobs}
-use Rattle.jobs.specs.Meetings.{first_met}
+use Rattle.jobs.specs.Meetings.{HeldJob, first_met}
+use Rattle.jobs.specs.Takes.{Take}
 use Rattle.jobs.specs.Ways.{stay_take}
 use Rattle.jobs.proofs.Waits.{still_as}
-use Rattle.jobs.proofs.Delays.{free, held, no_route, way_free, way_late, way_meets, way_met}
-use Rattle.jobs.proofs.Searches.{leap, leap_all, search_found, search_none}
+use Rattle.jobs.proofs.Delays.{free, no_route, way_free, way_late, way_meets, way_met}
+use Rattle.jobs.proofs.Searches.{FailsFrom, Passed, leap, leap_all, search_found, search_none}
+use Rattle.jobs.proofs.board.Board.first_delay.Given.{Over}
+use Rattle.jobs.proofs.board.Board.first_delay.Goals.{After-max}
 use Rattle.jobs.proofs.board.Board.first_delay.Goals as goal
+
+-- takes that are told otherwise meet the same
+met_as : (hs : List HeldJob) {xs ys : List Take} {o : Option Meeting} → xs ≡ ys → o ≡ first_met xs hs → o ≡ first_met ys hs
+met_as hs same told = told ∙ ap (λ ts. first_met ts hs) same
+
+-- where each delay from this one on is refused, there is none
+none_after : (test : ℕ → Bool) (v n : ℕ) → n ≤ 4294967296 → Passed test v → FailsFrom test v None → None ≡ first_from test n 0
+none_after test v n few passed fails = search_none test n (λ y l. leap_all test v passed fails y (omega arith))
+
+-- each delay below the next one is refused
+refused : (g : Over) (c : After-max g) (y : ℕ) → y < c.loop-delay.delay + c.max.result → y < 4294967296
+    → free (setting_of g.F.Fabric.meaning c.args.self.now) (record { tasks = c.args.self.now.tasks.now; messages = c.args.held.now })
+    c.args.ends.now.source c.args.ends.now.destination c.args.m.now y ≡ false
+refused g c y below fits =
+    let takes = ap (map stay_take) c.as_slice-own.ensures.value ∙ c.stays-stays.ensures in
+    leap _ c.loop-delay.delay c.loop-delay.invariant c.in_ok-wait.wait
+    (way_met _ _ _ _ _ _ _ _ c.at-message.ensures c.in_ok-way.ensures c.in-Some.meeting (met_as _ takes c.in-Some.ensures))
+    (way_meets _ _ _ _ _ _ _ _ c.at-message.ensures c.in_ok-way.ensures (Some _) (still_as _ (Some _) takes c.in_ok-wait.ensures))
+    y (omega (arith, c.max.ensures)) fits
 
 pub returns-in_err-way : goal.returns-in_err-way
 returns-in_err-way g c =
     let f = setting_of g.F.Fabric.meaning c.args.self.now in
     let js : Jobs = record { tasks = c.args.self.now.tasks.now; messages = c.args.held.now } in
-    let s = c.args.ends.now.source in
-    let d = c.args.ends.now.destination in
-    let m = c.args.m.now in
-    c.from_residual.ensures ∙ search_none (free f js s d m) s.period (λ y l. no_route f js s d m c.in_err-way.ensures y)
+    c.from_residual.ensures
+    ∙ search_none _ c.args.ends.now.source.period (λ y l. no_route f js c.args.ends.now.source c.args.ends.now.destination c.args.m.now c.in_err-way.ensures y)
 
 pub returns-then-is_some : goal.returns-then-is_some
 returns-then-is_some g c =
-    let f = setting_of g.F.Fabric.meaning c.args.self.now in
-    let js : Jobs = record { tasks = c.args.self.now.tasks.now; messages = c.args.held.now } in
-    let s = c.args.ends.now.source in
-    let d = c.args.ends.now.destination in
-    let m = c.args.m.now in
-    let v = c.loop-delay.delay in
-    search_none (free f js s d m) s.period
-    (λ y l. leap_all (free f js s d m) v c.loop-delay.invariant
-    (way_late f js s d m v c.at-message.result c.in_ok-way.way c.at-message.ensures c.in_ok-way.ensures (grind arith)
-    (c.if-is_some.ensures ∙ ap is_some c.late_by.ensures)) y (grind arith))
+    none_after _ c.loop-delay.delay _ (grind arith) c.loop-delay.invariant
+    (way_late _ _ _ _ _ _ _ _ c.at-message.ensures c.in_ok-way.ensures (grind arith) (c.if-is_some.ensures ∙ ap is_some c.late_by.ensures))
 
 pub returns-in_default : goal.returns-in_default
 returns-in_default g c =
-    let f = setting_of g.F.Fabric.meaning c.args.self.now in
-    let js : Jobs = record { tasks = c.args.self.now.tasks.now; messages = c.args.held.now } in
-    let s = c.args.ends.now.source in
-    let d = c.args.ends.now.destination in
-    let m = c.args.m.now in
-    let v = c.loop-delay.delay in
-    search_found (free f js s d m) s.period v (omega arith) c.loop-delay.invariant
-    (way_free f js s d m v c.at-message.result c.in_ok-way.way c.at-message.ensures c.in_ok-way.ensures
-    (c.if-is_some.ensures ∙ ap is_some c.late_by.ensures) (c.in_default.ensures ∙ ap (λ ts. first_met ts (held f js s d m)) (ap (map stay_take) c.as_slice-own.ensures.value ∙ c.stays-stays.ensures)))
+    let takes = ap (map stay_take) c.as_slice-own.ensures.value ∙ c.stays-stays.ensures in
+    search_found _ _ c.loop-delay.delay (omega arith) c.loop-delay.invariant
+    (way_free _ _ _ _ _ _ _ _ c.at-message.ensures c.in_ok-way.ensures (c.if-is_some.ensures ∙ ap is_some c.late_by.ensures) (met_as _ takes c.in_default.ensures))
 
 pub returns-in_err-wait : goal.returns-in_err-wait
 returns-in_err-wait g c =
-    let f = setting_of g.F.Fabric.meaning c.args.self.now in
-    let js : Jobs = record { tasks = c.args.self.now.tasks.now; messages = c.args.held.now } in
-    let s = c.args.ends.now.source in
-    let d = c.args.ends.now.destination in
-    let m = c.args.m.now in
-    let v = c.loop-delay.delay in
+    let takes = ap (map stay_take) c.as_slice-own.ensures.value ∙ c.stays-stays.ensures in
     c.from_residual-in_err-wait.ensures
-    ∙ search_none (free f js s d m) s.period
-    (λ y l. leap_all (free f js s d m) v c.loop-delay.invariant
-    (way_meets f js s d m v c.at-message.result c.in_ok-way.way c.at-message.ensures c.in_ok-way.ensures None (still_as (held f js s d m) None (ap (map stay_take) c.as_slice-own.ensures.value ∙ c.stays-stays.ensures) c.in_err-wait.ensures)) y (grind arith))
+    ∙ none_after _ c.loop-delay.delay _ (grind arith) c.loop-delay.invariant
+    (way_meets _ _ _ _ _ _ _ _ c.at-message.ensures c.in_ok-way.ensures None (still_as _ None takes c.in_err-wait.ensures))
 
 pub returns-in_err-delay : goal.returns-in_err-delay
 returns-in_err-delay g c =
-    let f = setting_of g.F.Fabric.meaning c.args.self.now in
-    let js : Jobs = record { tasks = c.args.self.now.tasks.now; messages = c.args.held.now } in
-    let s = c.args.ends.now.source in
-    let d = c.args.ends.now.destination in
-    let m = c.args.m.now in
-    let v = c.loop-delay.delay in
-    let w = c.in_ok-wait.wait in
     let few : c.args.ends.now.source.period ≤ 4294967296 = grind arith in
-    let past : 4294967296 ≤ v + c.max.result = ⊎_elim (λ l. absurd (c.in_err-delay.ensures (omega arith))) (λ l. l) (cases_lt (v + c.max.result) 4294967296) in
+    let past : 4294967296 ≤ c.loop-delay.delay + c.max.result = ⊎_elim (λ l. absurd (c.in_err-delay.ensures (omega arith))) (λ l. l) (cases_lt (c.loop-delay.delay + c.max.result) 4294967296) in
     c.from_residual-in_err-delay.ensures
-    ∙ search_none (free f js s d m) s.period
-    (λ y l. leap (free f js s d m) v c.loop-delay.invariant w
-    (way_met f js s d m v c.at-message.result c.in_ok-way.way c.at-message.ensures c.in_ok-way.ensures c.in-Some.meeting (c.in-Some.ensures ∙ ap (λ ts. first_met ts (held f js s d m)) (ap (map stay_take) c.as_slice-own.ensures.value ∙ c.stays-stays.ensures)))
-    (way_meets f js s d m v c.at-message.result c.in_ok-way.way c.at-message.ensures c.in_ok-way.ensures (Some w) (still_as (held f js s d m) (Some w) (ap (map stay_take) c.as_slice-own.ensures.value ∙ c.stays-stays.ensures) c.in_ok-wait.ensures))
-    y (omega (arith, c.max.ensures)) (omega arith))
+    ∙ search_none _ _ (λ y l. refused g (goal.at.returns-in_err-delay g c).After-max y (omega arith) (omega arith))
 
 pub loop-delay-preserved : goal.loop-delay-preserved
 loop-delay-preserved g c =
-    let f = setting_of g.F.Fabric.meaning c.args.self.now in
-    let js : Jobs = record { tasks = c.args.self.now.tasks.now; messages = c.args.held.now } in
-    let s = c.args.ends.now.source in
-    let d = c.args.ends.now.destination in
-    let m = c.args.m.now in
-    let v = c.loop-delay.delay in
-    let w = c.in_ok-wait.wait in
-    λ y l. leap (free f js s d m) v c.loop-delay.invariant w
-    (way_met f js s d m v c.at-message.result c.in_ok-way.way c.at-message.ensures c.in_ok-way.ensures c.in-Some.meeting (c.in-Some.ensures ∙ ap (λ ts. first_met ts (held f js s d m)) (ap (map stay_take) c.as_slice-own.ensures.value ∙ c.stays-stays.ensures)))
-    (way_meets f js s d m v c.at-message.result c.in_ok-way.way c.at-message.ensures c.in_ok-way.ensures (Some w) (still_as (held f js s d m) (Some w) (ap (map stay_take) c.as_slice-own.ensures.value ∙ c.stays-stays.ensures) c.in_ok-wait.ensures))
-    y (omega (arith, c.max.ensures, c.in_ok-delay.ensures)) (grind arith)
+    λ y l. refused g (goal.at.loop-delay-preserved g c).After-max y (omega (arith, c.in_ok-delay.ensures)) (grind arith)
 
 pub returns : goal.returns
-returns g c =
-    let f = setting_of g.F.Fabric.meaning c.args.self.now in
-    let js : Jobs = record { tasks = c.args.self.now.tasks.now; messages = c.args.held.now } in
-    search_none (free f js c.args.ends.now.source c.args.ends.now.destination c.args.m.now) c.args.ends.now.source.period
-    (λ y l. c.loop-delay.invariant y (omega arith))
+returns g c = search_none _ _ (λ y l. c.loop-delay.invariant y (omega arith))
