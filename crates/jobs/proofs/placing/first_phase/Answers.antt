@@ -1,4 +1,4 @@
-use Rattle.std.proofs.Common.{◌≡◌, ℕ, ◌+◌, ◌-◌, ◌≤◌, Bool, List, [], ◌∷◌, map, Some, None, Option, sym, ap, ◌∙◌, subst, ⊎_elim, arith}
+use Rattle.std.proofs.Common.{◌≡◌, ℕ, ◌+◌, ◌-◌, ◌<◌, ◌≤◌, Bool, false, List, [], ◌∷◌, map, Some, None, Option, sym, ap, ◌∙◌, subst, ⊎_elim, arith}
 use Rattle.std.proofs.lemmas.Bool.{cases_lt}
 use Rattle.records.specs.declared.record.Task.{Task}
 use Rattle.refusals.specs.declared.refusal.Meeting.{Meeting}
@@ -10,6 +10,7 @@ use Rattle.jobs.specs.Takes.{task_takes}
 use Rattle.jobs.specs.Waits.{StillMet}
 use Rattle.jobs.proofs.Searches.{FailsFrom, leap, leap_all, search_found, search_none}
 use Rattle.jobs.proofs.Waits.{phase_fails, still_as}
+use Rattle.jobs.proofs.placing.first_phase.Goals.{After-max}
 use Rattle.jobs.proofs.placing.first_phase.Goals as goal
 
 -- whether no held task is met at a phase
@@ -29,6 +30,17 @@ fails : (t : OpenTask) (held : List Task) (v : ℕ) (u : Task) (wait : Option �
     → FailsFrom (free t held) v wait
 fails t held v u wait e still =
     phase_fails t (map held_task held) v wait (subst (λ (x : Task). StillMet (task_takes x) (map held_task held) wait) e still)
+
+-- each phase below the next one is refused
+refused : (c : After-max) (m : ℕ) → m < c.loop-phase.phase + c.max.result → m < 4294967296 → free c.args.t.now c.args.held.now m ≡ false
+refused c m below fits =
+    let t = c.args.t.now in
+    let held = c.args.held.now in
+    let v = c.loop-phase.phase in
+    let w = c.in_ok-wait.wait in
+    leap (free t held) v c.loop-phase.invariant w (met_at t held v c.at-task.result (Some c.in-Some.meeting) c.at-task.ensures c.in-Some.ensures)
+    (fails t held v c.at-task.result (Some w) c.at-task.ensures (still_as (map held_task held) (Some w) (ap (λ x. x ∷ []) c.stay_of.ensures) c.in_ok-wait.ensures))
+    m (omega (arith, c.max.ensures)) fits
 
 pub returns-in_err-last : goal.returns-in_err-last
 returns-in_err-last c =
@@ -54,25 +66,13 @@ returns-in_err-wait c =
 
 pub returns-in_err-phase : goal.returns-in_err-phase
 returns-in_err-phase c =
-    let t = c.args.t.now in
-    let held = c.args.held.now in
-    let v = c.loop-phase.phase in
-    let w = c.in_ok-wait.wait in
-    let past : 4294967296 ≤ v + c.max.result = ⊎_elim (λ l. absurd (c.in_err-phase.ensures (omega arith))) (λ l. l) (cases_lt (v + c.max.result) 4294967296) in
+    let past : 4294967296 ≤ c.loop-phase.phase + c.max.result = ⊎_elim (λ l. absurd (c.in_err-phase.ensures (omega arith))) (λ l. l) (cases_lt (c.loop-phase.phase + c.max.result) 4294967296) in
     c.from_residual-in_err-phase.ensures
-    ∙ search_none (free t held) (count t)
-    (λ m l. leap (free t held) v c.loop-phase.invariant w (met_at t held v c.at-task.result (Some c.in-Some.meeting) c.at-task.ensures c.in-Some.ensures)
-    (fails t held v c.at-task.result (Some w) c.at-task.ensures (still_as (map held_task held) (Some w) (ap (λ x. x ∷ []) c.stay_of.ensures) c.in_ok-wait.ensures)) m (omega (arith, c.max.ensures)) (omega arith))
+    ∙ search_none _ (count c.args.t.now) (λ m l. refused (goal.at.returns-in_err-phase c).After-max m (omega arith) (omega arith))
 
 pub loop-phase-preserved : goal.loop-phase-preserved
 loop-phase-preserved c =
-    let t = c.args.t.now in
-    let held = c.args.held.now in
-    let v = c.loop-phase.phase in
-    let w = c.in_ok-wait.wait in
-    λ m l. leap (free t held) v c.loop-phase.invariant w (met_at t held v c.at-task.result (Some c.in-Some.meeting) c.at-task.ensures c.in-Some.ensures)
-    (fails t held v c.at-task.result (Some w) c.at-task.ensures (still_as (map held_task held) (Some w) (ap (λ x. x ∷ []) c.stay_of.ensures) c.in_ok-wait.ensures)) m
-    (omega (arith, c.max.ensures, c.in_ok-phase.ensures)) (omega arith)
+    λ m l. refused (goal.at.loop-phase-preserved c).After-max m (omega (arith, c.in_ok-phase.ensures)) (omega arith)
 
 pub returns : goal.returns
 returns c =
