@@ -8,7 +8,7 @@ use Rattle.promise.proofs.Lists.{in_cases, in_nil, in_right, in_there}
 
 module _ {X : Type 0} where
   -- a front has what the list has
-  nth_left : (xs ys : List X) (i : ℕ) (x : X) → slice_get xs i ≡ Some x → slice_get (xs ++ ys) i ≡ Some x
+  pub nth_left : (xs ys : List X) (i : ℕ) (x : X) → slice_get xs i ≡ Some x → slice_get (xs ++ ys) i ≡ Some x
   nth_left [] ys i x e = absurd (in_nil x (i, e))
   nth_left (z ∷ xs) ys zero x e = e
   nth_left (z ∷ xs) ys (suc i) x e = nth_left xs ys i x e

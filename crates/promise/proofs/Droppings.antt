@@ -1,5 +1,5 @@
 -- What a dropping answers, by who is held and who names whom.
-use Rattle.std.proofs.Common.{◌≡◌, ℕ, Bool, true, false, cond, eqb, ◌⊎◌, List, [], ◌∷◌, is_some, Some, None, Ok, Err, Option, Result, sym, refl, ◌∙◌, subst, inl, inr, ⊎_elim, arith}
+use Rattle.std.proofs.Common.{◌≡◌, ℕ, Bool, true, false, cond, eqb, ◌⊎◌, List, [], ◌∷◌, is_some, Some, None, Ok, Err, Option, Result, sym, refl, ◌∙◌, subst, inl, inr, ⊎_elim}
 use Rattle.std.proofs.lemmas.Bool.{both_ways, eq-eqb, eqb-true, or_cases, or_left, or_right}
 use Rattle.records.specs.Named.{named, spot}
 use Rattle.records.proofs.Places.{spot_named}
@@ -48,18 +48,18 @@ task_dropping js n = go (is_some (spot task_name n js.tasks)) refl (in_use n js.
         → TaskDropped js n (cond {A = Result (Unit {0}) DropFault × Jobs} b (cond u (Err InUse, js) (Ok tt, without_task js n)) (Err Unknown, js)).0
     go true eb true eu =
         record {
-          unknown = (λ e. absurd cc, λ never. absurd (never (held_spot task_name n js.tasks eb)));
+          unknown = (λ e. cc, λ never. absurd (never (held_spot task_name n js.tasks eb)));
           in_use = (λ e. (held_spot task_name n js.tasks eb, used n js.messages eu), λ x. refl);
         }
     go true eb false eu =
         record {
-          unknown = (λ e. absurd cc, λ never. absurd (never (held_spot task_name n js.tasks eb)));
-          in_use = (λ e. absurd cc, λ x. absurd (both_ways (in_use n js.messages) eu (in_used n js.messages x.1.0 x.1.1 x.1.2)));
+          unknown = (λ e. cc, λ never. absurd (never (held_spot task_name n js.tasks eb)));
+          in_use = (λ e. cc, λ x. absurd (both_ways (in_use n js.messages) eu (in_used n js.messages x.1.0 x.1.1 x.1.2)));
         }
     go false eb u eu =
         record {
           unknown = (λ e x. fresh_apart task_name n js.tasks eb x.0 x.1 x.2, λ never. refl);
-          in_use = (λ e. absurd cc, λ x. absurd (fresh_apart task_name n js.tasks eb x.0.0 x.0.1 x.0.2));
+          in_use = (λ e. cc, λ x. absurd (fresh_apart task_name n js.tasks eb x.0.0 x.0.1 x.0.2));
         }
 
 pub message_dropping : (js : Jobs) (n : ℕ) → MessageDropped js n (drop_message js n).0
@@ -68,7 +68,7 @@ message_dropping js n = go (is_some (spot message_name n js.messages)) refl
     go : (b : Bool) → is_some (spot message_name n js.messages) ≡ b → MessageDropped js n (cond {A = Result (Unit {0}) DropFault × Jobs} b (Ok tt, without_message js n) (Err Unknown, js)).0
     go true eb =
         record {
-          unknown = (λ e. absurd cc, λ never. absurd (never (held_spot message_name n js.messages eb)));
+          unknown = (λ e. cc, λ never. absurd (never (held_spot message_name n js.messages eb)));
           free = λ e. cc;
         }
     go false eb =

@@ -1,5 +1,6 @@
 -- The earlier checks refuse exactly where one of their conditions holds.
-use Rattle.std.proofs.Common.{◌≡◌, ℕ, ◌≤◌, Bool, true, false, cond, not, leb, ◌↔◌, List, length, Some, None, Err, Option, sym, refl, ap, ◌∙◌, subst, arith}
+use Rattle.std.proofs.Common.{◌≡◌, ℕ, ◌≤◌, Bool, true, false, cond, not, leb, ◌↔◌, List, length, Some, None, Err, Option, sym, refl, ap, ◌∙◌, subst}
+use Rattle.std.proofs.lemmas.Option.{same_Some}
 use Rattle.fabric.specs.Network.{Lawful}
 use Rattle.records.specs.declared.record.Task.{Task}
 use Rattle.records.specs.declared.record.Message.{Message}
@@ -28,11 +29,8 @@ use Rattle.promise.proofs.Tasks.{past, task_offer}
 abbrev Stops : {E : Type 0} → (E → Type 0) → (Option E → Option E) → Type 0
 Stops {E = E} Early checks = (e : E) → checks None ≡ Some e → Early e × ((rest : Option E) → checks rest ≡ Some e)
 
-some_same : {E : Type 0} (x y : E) → Some x ≡ Some y → x ≡ y
-some_same x y e = cc
-
 step_stops : {E : Type 0} (Early : E → Type 0) (b : Bool) (x : E) (next : Option E → Option E) → Early x → Stops Early next → Stops Early (λ rest. cond b (Some x) (next rest))
-step_stops Early true x next here later e is = (subst Early (some_same x e is) here, λ rest. is)
+step_stops Early true x next here later e is = (subst Early (same_Some x e is) here, λ rest. is)
 step_stops Early false x next here later e is = later e is
 
 end_stops : {E : Type 0} (Early : E → Type 0) → Stops Early (λ rest. rest)
@@ -77,23 +75,23 @@ MessageStops checks = (e : MessageFault) → checks (λ s d r. None) ≡ Some e 
 
 module _ (g : Setting) (js : Jobs) (m : Message) where
   routed_stops : (s d : Task) (o : Option (List ℕ)) → MessageStops (λ rest. routed_checks js o (rest s d))
-  routed_stops s d None e is = (subst EarlyMessage (some_same message_fault.NoRoute e is) tt, λ rest. is)
+  routed_stops s d None e is = (subst EarlyMessage (same_Some message_fault.NoRoute e is) tt, λ rest. is)
   routed_stops s d (Some r) e is = go (leb 128 (length js.messages)) is
     where
       go : (b : Bool) → cond b (Some message_fault.Full) None ≡ Some e
           → EarlyMessage e × ((rest : Task → Task → List ℕ → Option MessageFault) → cond b (Some message_fault.Full) (rest s d r) ≡ Some e)
-      go true x = (subst EarlyMessage (some_same message_fault.Full e x) tt, λ rest. x)
+      go true x = (subst EarlyMessage (same_Some message_fault.Full e x) tt, λ rest. x)
       go false x = cc
 
   ends_stops : (s d : Option Task) → MessageStops (ends_checks g js m s d)
-  ends_stops None d e is = (subst EarlyMessage (some_same message_fault.Ends e is) tt, λ rest. is)
-  ends_stops (Some s) None e is = (subst EarlyMessage (some_same message_fault.Ends e is) tt, λ rest. is)
+  ends_stops None d e is = (subst EarlyMessage (same_Some message_fault.Ends e is) tt, λ rest. is)
+  ends_stops (Some s) None e is = (subst EarlyMessage (same_Some message_fault.Ends e is) tt, λ rest. is)
   ends_stops (Some s) (Some d) e is = go (message_timely s m) is
     where
       go : (b : Bool) → cond b (routed_checks js (g.network.route s.core d.core) (λ r. None)) (Some message_fault.Times) ≡ Some e
           → EarlyMessage e × ((rest : Task → Task → List ℕ → Option MessageFault) → cond b (routed_checks js (g.network.route s.core d.core) (rest s d)) (Some message_fault.Times) ≡ Some e)
       go true x = routed_stops s d (g.network.route s.core d.core) e x
-      go false x = (subst EarlyMessage (some_same message_fault.Times e x) tt, λ rest. x)
+      go false x = (subst EarlyMessage (same_Some message_fault.Times e x) tt, λ rest. x)
 
   message_stops : MessageStops (message_checks g js m)
   message_stops e is = go (name_taken message_name m.name js.messages) is
@@ -101,7 +99,7 @@ module _ (g : Setting) (js : Jobs) (m : Message) where
       go : (b : Bool) → cond b (Some message_fault.Name) (ends_checks g js m (task_named js.tasks m.source) (task_named js.tasks m.destination) (λ s d r. None)) ≡ Some e
           → EarlyMessage e × ((rest : Task → Task → List ℕ → Option MessageFault)
           → cond b (Some message_fault.Name) (ends_checks g js m (task_named js.tasks m.source) (task_named js.tasks m.destination) rest) ≡ Some e)
-      go true x = (subst EarlyMessage (some_same message_fault.Name e x) tt, λ rest. x)
+      go true x = (subst EarlyMessage (same_Some message_fault.Name e x) tt, λ rest. x)
       go false x = ends_stops (task_named js.tasks m.source) (task_named js.tasks m.destination) e x
 
 message_late : (g : Setting) (js : Jobs) (m : Message) (s d : Task) (r : List ℕ) (e : MessageFault) → MessageWhy g js m s d r e → EarlyMessage e → ⊥

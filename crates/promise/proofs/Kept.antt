@@ -1,5 +1,5 @@
 -- What each taken job keeps, offers, placings and loads keep. Assumes nothing.
-use Rattle.std.proofs.Common.{◌≡◌, ℕ, ◌+◌, ◌-◌, true, List, Some, None, Ok, Err, Option, Result, refl, subst, arith}
+use Rattle.std.proofs.Common.{◌≡◌, ℕ, ◌+◌, ◌-◌, true, List, [], ◌∷◌, Some, None, Ok, Err, Option, Result, refl, subst}
 use Rattle.holds.specs.Search.{first_from}
 use Rattle.holds.proofs.Search.{Found, first_found}
 use Rattle.records.specs.declared.record.Task.{Task}
@@ -13,9 +13,8 @@ use Rattle.jobs.specs.Open.{message_at, task_at}
 use Rattle.jobs.specs.Placings.{clear, delays, first_delay, first_phase, message_placed, place_message, place_task, task_placed}
 use Rattle.jobs.specs.Checks.{message_checks, task_checks}
 use Rattle.jobs.specs.Rules.{message_refusal, offer_message, offer_task, offered, task_refusal}
-use Rattle.plan.specs.Loading.{job_part, load, load_tasks, loaded, past_tasks}
+use Rattle.plan.specs.Loading.{in_turn, job_part, load, load_tasks, loaded, on_taken, past_tasks}
 use Rattle.plan.specs.declared.fault.LayoutFault.{LayoutFault}
-use Rattle.promise.proofs.Keeps.{turn_keeps}
 
 -- a search goes on while the offer would be refused, so what it finds is not refused
 clear_found : {E : Type 0} (refusal : ℕ → Option E) (n v : ℕ) → first_from (λ x. clear (refusal x)) n 0 ≡ Some v → refusal v ≡ None
@@ -27,9 +26,20 @@ clear_found {E} refusal n v e =
     none None e = refl
     none (Some x) e = cc
 
+-- what is held before an offer is kept where it is refused
 either : {E : Type 0} (P : Jobs → Type 0) (o : Option E) (js after : Jobs) → P js → (o ≡ None → P after) → P (offered o js after).1
 either P None js after here taken = taken refl
 either P (Some e) js after here taken = here
+
+module _ {X E : Type 0} (P : Jobs → Type 0) (refusal : Jobs → X → Option E) (held : Jobs → X → Jobs) (keep : (js : Jobs) (x : X) → P js → refusal js x ≡ None → P (held js x)) where
+  -- what each taken offer keeps, offers in turn keep
+  pub turn_keeps : (js : Jobs) (k : ℕ) (xs : List X) → P js → P (in_turn refusal held js k xs).1
+  turn_keeps js k [] here = here
+  turn_keeps js k (x ∷ xs) here = go (refusal js x) refl (λ e. turn_keeps (held js x) (k + 1) xs (keep js x here e))
+    where
+      go : (o : Option E) → refusal js x ≡ o → (refusal js x ≡ None → P (in_turn refusal held (held js x) (k + 1) xs).1) → P (on_taken k o js (in_turn refusal held (held js x) (k + 1) xs)).1
+      go None e next = next e
+      go (Some y) e next = here
 
 module _ (g : Setting) (P : Jobs → Type 0) where
   module _ (keep : (js : Jobs) (t : Task) → P js → task_refusal g.network.nodes js t ≡ None → P (with_task js t)) where

@@ -1,7 +1,7 @@
 -- Members of lists, and lists of records whose names are distinct. Assumes nothing.
-use Rattle.std.proofs.Common.{◌≡◌, ℕ, zero, suc, ◌<◌, true, false, cond, eqb, ltb, ◌⊎◌, List, [], ◌∷◌, ◌++◌, map, is_some, Some, None, sym, refl, ap, ◌∙◌, inl, inr, ⊎_elim, arith}
+use Rattle.std.proofs.Common.{◌≡◌, ℕ, zero, suc, true, false, cond, eqb, ltb, ◌⊎◌, List, [], ◌∷◌, ◌++◌, map, is_some, Some, None, sym, refl, ap, ◌∙◌, inl, inr, ⊎_elim, arith}
 use Rattle.std.specs.Option.{option_map}
-use Rattle.std.proofs.lemmas.Bool.{cond_both, cond-true, cond-false, eq-eqb, eqb-false, eqb-true, ltb-true, ne_eqb, both_ways}
+use Rattle.std.proofs.lemmas.Bool.{cond_both, cond-true, cond-false, eq-eqb, eqb-false, eqb-true, ne_eqb, both_ways}
 use Rattle.records.specs.Named.{named, spot, add, without}
 use Rattle.records.proofs.Places.{some_on}
 use Rattle.promise.specs.Clean.{In, Distinct}
@@ -153,16 +153,6 @@ module _ {X : Type 0} (name : X → ℕ) where
       cond_both (ltb (name z) (name x)) (z ∷ add name x zs) (x ∷ z ∷ zs) (λ l. named name n l ≡ named name n (z ∷ zs))
       (λ _. ap (λ o. cond (eqb (name z) n) (Some z) o) (named_add_other n x zs ne))
       (λ _. cond-false (eqb (name x) n) (Some x) (named name n (z ∷ zs)) (ne_eqb (name x) n ne))
-
-  -- its own name finds it: what stands before has smaller names
-  pub named_add_same : (x : X) (xs : List X) → named name (name x) (add name x xs) ≡ Some x
-  named_add_same x [] = cond-true (eqb (name x) (name x)) (Some x) None (eq-eqb (name x) (name x) refl)
-  named_add_same x (z ∷ zs) =
-      cond_both (ltb (name z) (name x)) (z ∷ add name x zs) (x ∷ z ∷ zs) (λ l. named name (name x) l ≡ Some x)
-      (λ t. cond-false (eqb (name z) (name x)) (Some z) (named name (name x) (add name x zs))
-      (ne_eqb (name z) (name x) (λ e. let lt : name z < name x = ltb-true (name z) (name x) t in omega arith))
-      ∙ named_add_same x zs)
-      (λ _. cond-true (eqb (name x) (name x)) (Some x) (named name (name x) (z ∷ zs)) (eq-eqb (name x) (name x) refl))
 
   -- ---- one record less
 

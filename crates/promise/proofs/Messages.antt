@@ -216,7 +216,7 @@ module _ (g : Setting) (most : ℕ) (few : most ≤ 64) (laws : Lawful most g.ne
           let f = first_is x (met_is (Some x) is_o) in
           record {
             exact = (λ _. meeting_breaks x f, λ _. (message_fault.Meets x, refl));
-            taken = λ k. absurd cc;
+            taken = λ k. cc;
             why = λ e k. let same : message_fault.Meets x ≡ e = cc in subst (MessageWhy g js m s d r) same (on is_v, f);
           }
       go (Some v) o is_v is_o =
@@ -224,6 +224,6 @@ module _ (g : Setting) (most : ℕ) (few : most ≤ 64) (laws : Lawful most g.ne
           let neg = (below (message_slack g.network.delay s d m (length r)) v is_v).1 in
           record {
             exact = (λ _. late_breaks_it v is_v, λ _. (message_fault.Late v, refl));
-            taken = λ k. absurd cc;
+            taken = λ k. cc;
             why = λ e k. let same : message_fault.Late v ≡ e = cc in subst (MessageWhy g js m s d r) same (least, neg);
           }

@@ -1,7 +1,8 @@
 -- Questions on a clean plan: who has a core or a link at an instant, and the slack of a message.
-use Rattle.std.proofs.Common.{◌≡◌, ℕ, ◌+◌, ◌%◌, ◌≤◌, Bool, true, false, cond, leb, ◌↔◌, List, [], ◌∷◌, map, length, ℤ, pos, ◌-ℤ◌, Some, None, Ok, Err, Option, sym, refl, ap, ◌∙◌, subst, ⊎_elim, arith}
+use Rattle.std.proofs.Common.{◌≡◌, ℕ, ◌+◌, ◌%◌, ◌≤◌, Bool, true, false, cond, leb, ◌↔◌, List, [], ◌∷◌, map, length, ℤ, pos, ◌-ℤ◌, Some, None, Ok, Err, Option, sym, refl, ap, ◌∙◌, subst, ⊎_elim}
 use Rattle.std.specs.Option.{ok_or}
 use Rattle.std.proofs.lemmas.Bool.{cond-true, le-leb, leb-true}
+use Rattle.std.proofs.lemmas.Option.{same_Some}
 use Rattle.fabric.specs.Network.{Lawful}
 use Rattle.holds.specs.Gcd.{gcd}
 use Rattle.holds.specs.Span.{HoldsAt, Span}
@@ -27,9 +28,6 @@ use Rattle.promise.specs.Questions.{CoreTold, LinkTold, SlackTold}
 use Rattle.promise.proofs.Lists.{apart_none, in_cases, in_map, in_named, in_nil, map_in, named_in}
 use Rattle.promise.proofs.Meets.{same_place_refl, same_place_true}
 use Rattle.promise.proofs.Takes.{take_at, take_of, timely_made, timely_sent}
-
-some_same : {X : Type 0} (x y : X) → Some x ≡ Some y → x ≡ y
-some_same x y e = cc
 
 -- ---- a told holder is the only one
 
@@ -86,7 +84,7 @@ module _ (g : Setting) (js : Jobs) (clean : Clean g js) (c n : ℕ) where
           let take : h.take ≡ task_take t = ⊎_elim (λ e. e) (λ j. absurd (in_nil h.take j)) (in_cases (task_take t) h.take [] lone) in
           let at : core c ≡ core t.core = same_place_true (core c) h.take.place h.has.0 ∙ ap (λ (x : Take). x.place) take in
           let span : h.has.1.0 ≡ task_span t =
-          some_same _ _ (sym h.has.1.1 ∙ ap (λ (x : Take). x.hold) take ∙ task_holds t (timely_made g t (clean.tasks t i))) in
+          same_Some _ _ (sym h.has.1.1 ∙ ap (λ (x : Take). x.hold) take ∙ task_holds t (timely_made g t (clean.tasks t i))) in
           (t, i, ap (λ (j : HeldJob). j.name) is ∙ h.named, (ap number (sym at), subst (λ (s : Span). HoldsAt s k n) span h.has.1.2))
 
   -- and a run of a held task that has the core is one of the rule's takes
@@ -156,7 +154,7 @@ module _ (g : Setting) (most : ℕ) (few : most ≤ 64) (laws : Lawful most g.ne
             let t = take_of g most few laws made.source made.destination m (found_timely m.source made.source made.ways.from) (made_sent m made)
             made.route made.ways.along h.take inside in
             let at : link l ≡ link t.1 = same_place_true (link l) h.take.place h.has.0 ∙ ap (λ (x : Take). x.place) t.3 in
-            let span : h.has.1.0 ≡ link_span g made.source m t.0 = some_same _ _ (sym h.has.1.1 ∙ ap (λ (x : Take). x.hold) t.3) in (
+            let span : h.has.1.0 ≡ link_span g made.source m t.0 = same_Some _ _ (sym h.has.1.1 ∙ ap (λ (x : Take). x.hold) t.3) in (
               m,
               i,
               ap (λ (j : HeldJob). j.name) is ∙ h.named,
@@ -176,8 +174,8 @@ module _ (g : Setting) (most : ℕ) (few : most ≤ 64) (laws : Lawful most g.ne
         → Holding (map (held_message g js.tasks) js.messages) (link l) n m.name k
     of_message m k i x =
         let made = clean.messages m i in
-        let s : x.source ≡ made.source = some_same _ _ (sym x.ways.from ∙ made.ways.from) in
-        let d : x.destination ≡ made.destination = some_same _ _ (sym x.ways.to ∙ made.ways.to) in
+        let s : x.source ≡ made.source = same_Some _ _ (sym x.ways.from ∙ made.ways.from) in
+        let d : x.destination ≡ made.destination = same_Some _ _ (sym x.ways.to ∙ made.ways.to) in
         let sent : message_timely x.source m ≡ true = subst (λ (t : Task). message_timely t m ≡ true) (sym s) (made_sent m made) in
         let takes : message_takes g js.tasks m ≡ packet_takes g x.source x.destination m =
         takes_are m made ∙ ap (λ (t : Task). packet_takes g t made.destination m) (sym s) ∙ ap (λ (t : Task). packet_takes g x.source t m) (sym d) in

@@ -3,6 +3,7 @@ use Rattle.std.proofs.Common.{◌≡◌, ℕ, zero, suc, ◌+◌, ◌<◌, ◌�
 use Rattle.std.specs.List.{slice_get}
 use Rattle.std.proofs.lemmas.Bool.{cases_order}
 use Rattle.std.proofs.lemmas.Bool.Decides.{nat_tests}
+use Rattle.std.proofs.lemmas.Option.{same_Some}
 use Rattle.fabric.specs.Network.{Lawful, Once}
 use Rattle.holds.specs.Span.{HoldsAt, Proper}
 use Rattle.holds.proofs.Busy.{run_only}
@@ -30,9 +31,6 @@ along_at hop [] start p w i y e = cc
 along_at hop (x ∷ xs) start p w zero y e = (x, refl)
 along_at hop (x ∷ xs) start p w (suc i) y e = along_at hop xs (start + hop) p w i y e
 
-some_same : {X : Type 0} (x y : X) → Some x ≡ Some y → x ≡ y
-some_same x y e = cc
-
 module _ (g : Setting) (most : ℕ) (few : most ≤ 64) (laws : Lawful most g.network) (s d : Task) (m : Message)
     (ts : task_timely s ≡ true) (tm : message_timely s m ≡ true) (r : List ℕ) (e : g.network.route s.core d.core ≡ Some r) where
   -- a take of a message's packets is its hold of the link at a place of the route
@@ -41,7 +39,7 @@ module _ (g : Setting) (most : ℕ) (few : most ≤ 64) (laws : Lawful most g.ne
       let here : slice_get (on_route g.network.delay (Some r) (leaves s m) s.period m.width) i ≡ Some y =
       ap (λ o. slice_get (on_route g.network.delay o (leaves s m) s.period m.width) i) (sym e) ∙ at in
       let l = along_at g.network.delay r (leaves s m) s.period m.width i y here in
-      (i, l.0, l.1, some_same y _ (sym at ∙ packet_holds g most few laws s d m ts tm r e i l.0 l.1))
+      (i, l.0, l.1, same_Some y _ (sym at ∙ packet_holds g most few laws s d m ts tm r e i l.0 l.1))
 
   -- and each place of the route gives one
   pub take_at : (i l : ℕ) → slice_get r i ≡ Some l → In (link_take l (Some (link_span g s m i))) (packet_takes g s d m)

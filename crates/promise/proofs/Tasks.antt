@@ -2,6 +2,7 @@
 use Rattle.std.proofs.Common.{◌≡◌, ℕ, false, ◌⊎◌, List, [], ◌∷◌, map, is_some, Some, None, Ok, Err, Option, Result, sym, refl, ap, ◌∙◌, subst, inl, inr, ⊎_elim, arith}
 use Rattle.std.specs.Option.{option_map}
 use Rattle.std.proofs.lemmas.Bool.{ne_eqb, or_from}
+use Rattle.std.proofs.lemmas.Option.{same_Some}
 use Rattle.holds.specs.Span.{HoldsAt, Span}
 use Rattle.holds.proofs.Busy.{run_only}
 use Rattle.records.specs.Named.{add, spot}
@@ -45,17 +46,14 @@ module _ (g : Setting) (t u : Task) (tm : TaskMade g t) (um : TaskMade g u) wher
 
   runs_meet : (n : ℕ) → MeetAt (task_take t) (task_take u) n → TasksMeet t u n t.core
   runs_meet n m =
-      let mine : m.mine ≡ task_span t = some_same (sym m.mine_is ∙ task_holds t (timely_made g t tm)) in
-      let theirs : m.theirs ≡ task_span u = some_same (sym m.theirs_is ∙ task_holds u (timely_made g u um)) in
+      let mine : m.mine ≡ task_span t = same_Some _ _ (sym m.mine_is ∙ task_holds t (timely_made g t tm)) in
+      let theirs : m.theirs ≡ task_span u = same_Some _ _ (sym m.theirs_is ∙ task_holds u (timely_made g u um)) in
       let same : u.core ≡ t.core = ap number (sym m.same) in (
         m.mine_busy.0,
         m.theirs_busy.0,
         (refl, subst (λ (h : Span). HoldsAt h m.mine_busy.0 n) mine m.mine_busy.1),
         (same, subst (λ (h : Span). HoldsAt h m.theirs_busy.0 n) theirs m.theirs_busy.1),
       )
-    where
-      some_same : {x y : Span} → Some x ≡ Some y → x ≡ y
-      some_same e = cc
 
 module _ (g : Setting) (js : Jobs) (t : Task) (clean : Clean g js) (p : TaskPassed g js t) where
   own_made : TaskMade g t
@@ -197,6 +195,6 @@ module _ (g : Setting) (js : Jobs) (t : Task) (clean : Clean g js) (p : TaskPass
           let f = first_is m is in
           record {
             exact = (λ x. breaks m f, λ _. (task_fault.Meets m, refl));
-            taken = λ x. absurd cc;
+            taken = λ x. cc;
             why = λ e x. let same : task_fault.Meets m ≡ e = cc in subst (TaskWhy js t) same f;
           }
