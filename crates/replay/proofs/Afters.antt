@@ -1,5 +1,5 @@
 -- What is held after a call, by its answer.
-use Rattle.std.proofs.Common.{◌≡◌, ℕ, Bool, true, false, cond, List, is_some, Some, None, Ok, Err, Option, Result, sym, refl, subst, ⊎_elim, arith}
+use Rattle.std.proofs.Common.{◌≡◌, ℕ, Bool, true, false, cond, List, is_some, Some, None, Ok, Err, Option, Result, sym, refl, subst, ⊎_elim}
 use Rattle.records.specs.Named.{add, spot, without}
 use Rattle.jobs.specs.declared.fault.DropFault.{DropFault}
 use Rattle.jobs.specs.declared.fault.DropFault.TheVariants.{InUse, Unknown}
@@ -29,42 +29,42 @@ pub after : (g : Setting) (js : Jobs) → Clean g js → (a : Ask) → After g j
 after g js c (offering_task t) = go (task_refusal g.network.nodes js t)
   where
     go : (o : Option TaskFault) → After g js (offering_task t) (answer.TaskOffered (offered o js (with_task js t)).0) (offered o js (with_task js t)).1
-    go None = (λ _. (more task_name t js.tasks, refl), λ e x. absurd cc)
-    go (Some f) = (λ x. absurd cc, λ e x. refl)
+    go None = (λ _. (more task_name t js.tasks, refl), λ e x. cc)
+    go (Some f) = (λ x. cc, λ e x. refl)
 after g js c (offering_message m) = go (message_refusal g js m)
   where
     go : (o : Option MessageFault) → After g js (offering_message m) (answer.MessageOffered (offered o js (with_message js m)).0) (offered o js (with_message js m)).1
-    go None = (λ _. (more message_name m js.messages, refl), λ e x. absurd cc)
-    go (Some f) = (λ x. absurd cc, λ e x. refl)
+    go None = (λ _. (more message_name m js.messages, refl), λ e x. cc)
+    go (Some f) = (λ x. cc, λ e x. refl)
 after g js c (placing_task t) = go (task_checks g.network.nodes js (task_at t 0) None) (first_phase g js t)
   where
     go : (f : Option TaskFault) (o : Option ℕ) → After g js (placing_task t) (answer.TaskPlaced (task_placed js t f o).0) (task_placed js t f o).1
-    go (Some f) o = (λ v x. absurd cc, λ e x. refl)
-    go None None = (λ v x. absurd cc, λ e x. refl)
+    go (Some f) o = (λ v x. cc, λ e x. refl)
+    go None None = (λ v x. cc, λ e x. refl)
     go None (Some w) = (
       λ v x. let same : w ≡ v = cc in (subst (λ n. More (task_at t n) js.tasks (add task_name (task_at t w) js.tasks)) same (more task_name (task_at t w) js.tasks), refl),
-      λ e x. absurd cc,
+      λ e x. cc,
     )
 after g js c (placing_message m) = go (message_checks g js (message_at m 0) (λ s d r. None)) (first_delay g js m)
   where
     go : (f : Option MessageFault) (o : Option ℕ) → After g js (placing_message m) (answer.MessagePlaced (message_placed js m f o).0) (message_placed js m f o).1
-    go (Some f) o = (λ v x. absurd cc, λ e x. refl)
-    go None None = (λ v x. absurd cc, λ e x. refl)
+    go (Some f) o = (λ v x. cc, λ e x. refl)
+    go None None = (λ v x. cc, λ e x. refl)
     go None (Some w) = (
       λ v x. let same : w ≡ v = cc in (subst (λ n. More (message_at m n) js.messages (add message_name (message_at m w) js.messages)) same (more message_name (message_at m w) js.messages), refl),
-      λ e x. absurd cc,
+      λ e x. cc,
     )
 after g js c (dropping_task n) = go (is_some (spot task_name n js.tasks)) (in_use n js.messages)
   where
     go : (b u : Bool) → After g js (dropping_task n) (answer.Dropped (cond {A = Result (Unit {0}) DropFault × Jobs} b (cond u (Err InUse, js) (Ok tt, without_task js n)) (Err Unknown, js)).0) (cond {A = Result (Unit {0}) DropFault × Jobs} b (cond u (Err InUse, js) (Ok tt, without_task js n)) (Err Unknown, js)).1
-    go true true = (λ x. absurd cc, λ e x. refl)
-    go true false = (λ _. (less task_name n js.tasks c.task_names, refl), λ e x. absurd cc)
-    go false u = (λ x. absurd cc, λ e x. refl)
+    go true true = (λ x. cc, λ e x. refl)
+    go true false = (λ _. (less task_name n js.tasks c.task_names, refl), λ e x. cc)
+    go false u = (λ x. cc, λ e x. refl)
 after g js c (dropping_message n) = go (is_some (spot message_name n js.messages))
   where
     go : (b : Bool) → After g js (dropping_message n) (answer.Dropped (cond {A = Result (Unit {0}) DropFault × Jobs} b (Ok tt, without_message js n) (Err Unknown, js)).0) (cond {A = Result (Unit {0}) DropFault × Jobs} b (Ok tt, without_message js n) (Err Unknown, js)).1
-    go true = (λ _. (less message_name n js.messages c.message_names, refl), λ e x. absurd cc)
-    go false = (λ x. absurd cc, λ e x. refl)
+    go true = (λ _. (less message_name n js.messages c.message_names, refl), λ e x. cc)
+    go false = (λ x. cc, λ e x. refl)
 after g js c (loading part) = refl
 after g js c (asking_slack n) = refl
 after g js c (asking_core x n) = refl

@@ -10,13 +10,9 @@ use Rattle.jobs.specs.Rules.{message_refusal, offered, offer_message, offer_task
 use Rattle.plan.specs.Loading.{in_turn, job_part, load, load_messages, load_tasks, loaded, on_taken, past_messages, past_tasks}
 use Rattle.plan.specs.declared.fault.LayoutFault.{LayoutFault}
 use Rattle.promise.specs.Clean.{In}
+use Rattle.promise.proofs.Ascending.{nth_left}
 use Rattle.promise.proofs.Lists.{append_in, in_cases, in_nil}
 use Rattle.replay.specs.Promise.{LoadTold, PartTold, Taken, Try, if_taken, message_try, part_tries, task_try, turn_tries}
-
-nth_left : {X : Type 0} (xs ys : List X) (n : ℕ) (x : X) → slice_get xs n ≡ Some x → slice_get (xs ++ ys) n ≡ Some x
-nth_left [] ys n x e = cc
-nth_left (y ∷ xs) ys zero x e = e
-nth_left (y ∷ xs) ys (suc n) x e = nth_left xs ys n x e
 
 nth_right : {X : Type 0} (xs ys : List X) (k n : ℕ) (x : X) → length xs ≡ k → slice_get ys n ≡ Some x → slice_get (xs ++ ys) (k + n) ≡ Some x
 nth_right [] ys k n x l e = let same : n ≡ k + n = omega arith in subst (λ (i : ℕ). slice_get ys i ≡ Some x) same e

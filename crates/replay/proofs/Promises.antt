@@ -1,5 +1,5 @@
 -- The main promise: by induction over the list, since every call keeps a clean plan clean.
-use Rattle.std.proofs.Common.{◌≡◌, ℕ, zero, suc, ◌<◌, ◌≤◌, List, [], ◌∷◌, take, Some, Ok, Err, Option, Result, sym, refl, ap, subst, ⊎_elim, arith}
+use Rattle.std.proofs.Common.{◌≡◌, ℕ, zero, suc, ◌<◌, ◌≤◌, List, [], ◌∷◌, take, Some, Ok, Err, Option, Result, sym, refl, ap, subst, ⊎_elim}
 use Rattle.std.specs.List.{slice_get}
 use Rattle.std.proofs.lemmas.Bool.{cases_lt}
 use Rattle.fabric.specs.Network.{Lawful}
@@ -19,7 +19,8 @@ use Rattle.promise.specs.Clean.{Clean, In}
 use Rattle.promise.specs.Questions.{CoreTold, LinkTold}
 use Rattle.promise.proofs.Canonical.{drop_message_canonical, drop_task_canonical, load_canonical, message_offer_canonical, message_place_canonical, nothing_canonical, task_offer_canonical, task_place_canonical}
 use Rattle.promise.proofs.Drops.{drop_message_keeps, drop_task_keeps}
-use Rattle.promise.proofs.Keeps.{load_keeps, message_offer_keeps, message_place_keeps, task_offer_keeps, task_place_keeps, task_taken, turn_keeps}
+use Rattle.promise.proofs.Keeps.{load_keeps, message_offer_keeps, message_place_keeps, task_offer_keeps, task_place_keeps, task_taken}
+use Rattle.promise.proofs.Kept.{turn_keeps}
 use Rattle.promise.proofs.Lists.{append_in, in_cases, in_nil}
 use Rattle.promise.proofs.Droppings.{message_dropping, task_dropping}
 use Rattle.promise.proofs.Early.{message_answer, message_place_early, task_answer, task_place_early}
