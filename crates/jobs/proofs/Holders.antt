@@ -108,7 +108,7 @@ module _ (p : Place) (n : ℕ) where
 
 -- ---- what tasks and messages take is fit
 
-task_fit : (t : Task) → AllFit (held_task t).takes
+pub task_fit : (t : Task) → AllFit (held_task t).takes
 task_fit t zero x e h is = spanned_proper t.phase t.period t.width h (ap (λ y. y.hold) (same_Some _ _ e) ∙ is)
 task_fit t (suc i) x e h is = cc
 
@@ -135,5 +135,8 @@ between_fit g m (Some s) None i x e = cc
 between_fit g m (Some s) (Some d) i x e =
     route_fit g.network.delay (g.network.route s.core d.core) (s.phase + s.width + m.delay) s.period m.width i x e
 
+pub message_fit : (g : Setting) (ts : List Task) (m : Message) → AllFit (held_message g ts m).takes
+message_fit g ts m = between_fit g m (task_named ts m.source) (task_named ts m.destination)
+
 pub messages_fit : (g : Setting) (ts : List Task) (ms : List Message) (i : ℕ) (j : HeldJob) → slice_get (map (held_message g ts) ms) i ≡ Some j → AllFit j.takes
-messages_fit g ts ms = mapped_fit (held_message g ts) ms (λ m. between_fit g m (task_named ts m.source) (task_named ts m.destination))
+messages_fit g ts ms = mapped_fit (held_message g ts) ms (message_fit g ts)

@@ -2,24 +2,22 @@
 --   MeetAt     two takes of one place both hold it at an instant
 --   Sound      a take whose hold, if it has one, is proper
 --   MetFirst   what is told is a meeting of the two takes, and the first of all time
-use Rattle.std.proofs.Common.{◌≡◌, ℕ, ◌+◌, ◌≤◌, true, List, [], ◌∷◌, map, Some, None, Option, sym, refl, ap, ◌∙◌, subst, ⊎_elim}
+use Rattle.std.proofs.Common.{◌≡◌, ℕ, ◌≤◌, true, List, map, Some, None, Option, sym, refl, ap, ◌∙◌, subst}
 use Rattle.std.specs.Option.{option_map}
 use Rattle.std.proofs.lemmas.Bool.{cond_both, cond-true, eq-eqb, eqb-true}
 use Rattle.holds.specs.First.{IsFirst, first}
-use Rattle.holds.specs.Held.{spanned}
 use Rattle.holds.specs.Span.{Busy, Proper, Span}
 use Rattle.holds.proofs.First.{first_is}
-use Rattle.holds.proofs.Limits.{spanned_proper}
 use Rattle.records.specs.declared.record.Task.{Task}
 use Rattle.records.specs.declared.record.Message.{Message}
 use Rattle.refusals.specs.declared.refusal.Meeting.{Meeting}
-use Rattle.jobs.specs.Jobs.{Setting, task_named}
+use Rattle.jobs.specs.Jobs.{Setting}
 use Rattle.jobs.specs.Meetings.{HeldJob, at_instant, held_message, held_task, met, shared}
 use Rattle.jobs.specs.declared.place.Place.{Place}
 use Rattle.jobs.specs.declared.place.Place.TheVariants.{Core, Link}
-use Rattle.jobs.specs.Takes.{Take, along, between, core, leaves, link, message_takes, number, on_route, packet_takes, same_place, task_take, task_takes}
+use Rattle.jobs.specs.Takes.{Take, core, link, message_takes, number, same_place, task_takes}
+use Rattle.jobs.proofs.Holders.{message_fit, messages_fit, task_fit, tasks_fit}
 use Rattle.promise.specs.Clean.{In}
-use Rattle.promise.proofs.Lists.{in_cases, in_nil, map_in}
 
 -- two takes of one place both hold it at the instant n
 pub record MeetAt (x y : Take) (n : ℕ) : Type 0 where
@@ -44,48 +42,19 @@ AllSound xs = (x : Take) → In x xs → Sound x
 abbrev pub HeldSound : List HeldJob → Type 0
 HeldSound hs = (h : HeldJob) → In h hs → AllSound h.takes
 
--- ---- what tasks and packets take is sound
-
--- a hold of checked numbers is proper
-spanned_sound : (x : Take) (p : Place) (s d w : ℕ) → x ≡ record { place = p; hold = spanned s d w } → Sound x
-spanned_sound x p s d w e h is = spanned_proper s d w h (sym (ap (λ (y : Take). y.hold) e) ∙ is)
+-- ---- what tasks and packets take is sound, as its holds are fit
 
 pub task_takes_sound : (t : Task) → AllSound (task_takes t)
-task_takes_sound t x k =
-    ⊎_elim (λ e. spanned_sound x (core t.core) t.phase t.period t.width e) (λ j. absurd (in_nil x j)) (in_cases (task_take t) x [] k)
-
-pub along_sound : (hop : ℕ) (r : List ℕ) (s p w : ℕ) → AllSound (along hop r s p w)
-along_sound hop [] s p w x k = absurd (in_nil x k)
-along_sound hop (l ∷ ls) s p w x k =
-    ⊎_elim (λ e. spanned_sound x (link l) s p w e) (λ j. along_sound hop ls (s + hop) p w x j)
-    (in_cases (record { place = link l; hold = spanned s p w }) x (along hop ls (s + hop) p w) k)
-
-pub on_route_sound : (hop : ℕ) (o : Option (List ℕ)) (s p w : ℕ) → AllSound (on_route hop o s p w)
-on_route_sound hop None s p w x k = absurd (in_nil x k)
-on_route_sound hop (Some r) s p w x k = along_sound hop r s p w x k
-
-pub packet_takes_sound : (g : Setting) (s d : Task) (m : Message) → AllSound (packet_takes g s d m)
-packet_takes_sound g s d m = on_route_sound g.network.delay (g.network.route s.core d.core) (leaves s m) s.period m.width
-
-pub between_sound : (g : Setting) (m : Message) (s d : Option Task) → AllSound (between g m s d)
-between_sound g m None d x k = absurd (in_nil x k)
-between_sound g m (Some s) None x k = absurd (in_nil x k)
-between_sound g m (Some s) (Some d) x k = packet_takes_sound g s d m x k
+task_takes_sound t x (i, e) = task_fit t i x e
 
 pub message_takes_sound : (g : Setting) (ts : List Task) (m : Message) → AllSound (message_takes g ts m)
-message_takes_sound g ts m = between_sound g m (task_named ts m.source) (task_named ts m.destination)
-
-held_sound : {X : Type 0} (f : X → HeldJob) → ((x : X) → AllSound (f x).takes) → (xs : List X) → HeldSound (map f xs)
-held_sound {X = X} f sound xs h k = go (map_in f h xs k)
-  where
-    go : (x : X) × In x xs × (f x ≡ h) → AllSound h.takes
-    go (x, a, e) = subst (λ (j : HeldJob). AllSound j.takes) e (sound x)
+message_takes_sound g ts m x (i, e) = message_fit g ts m i x e
 
 pub tasks_sound : (ts : List Task) → HeldSound (map held_task ts)
-tasks_sound ts = held_sound held_task task_takes_sound ts
+tasks_sound ts h (k, at) x (i, e) = tasks_fit ts k h at i x e
 
 pub messages_sound : (g : Setting) (ts : List Task) (ms : List Message) → HeldSound (map (held_message g ts) ms)
-messages_sound g ts ms = held_sound (held_message g ts) (message_takes_sound g ts) ms
+messages_sound g ts ms h (k, at) x (i, e) = messages_fit g ts ms k h at i x e
 
 -- ---- the meeting of two takes
 
