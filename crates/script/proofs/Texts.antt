@@ -13,7 +13,7 @@ use Rattle.script.specs.Fields.{after, field, number, pair, then, unhexed, word_
 -- a text that begins with the front goes on with the rest
 pub after_some : (front text rest : List ℕ) → text ≡ front ++ rest → after front text ≡ Some rest
 after_some [] text rest e = ap Some e
-after_some (f ∷ front) [] rest e = absurd cc
+after_some (f ∷ front) [] rest e = cc
 after_some (f ∷ front) (b ∷ text) rest e =
     elim (eqb_tells f b) [ inl p ↦ rw p.0 (after_some front text rest cc) | inr p ↦ absurd (p.1 cc) ]
 
