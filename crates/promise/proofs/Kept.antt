@@ -26,7 +26,7 @@ clear_found {E} refusal n v e =
     none None e = refl
     none (Some x) e = cc
 
--- what is held before an offer is kept where it is refused
+-- what holds before an offer, and after it where it is taken, holds after it
 either : {E : Type 0} (P : Jobs → Type 0) (o : Option E) (js after : Jobs) → P js → (o ≡ None → P after) → P (offered o js after).1
 either P None js after here taken = taken refl
 either P (Some e) js after here taken = here

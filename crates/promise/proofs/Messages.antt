@@ -25,7 +25,7 @@ use Rattle.promise.proofs.Firsts.{FirstMet, first_met_none, first_met_some}
 use Rattle.promise.proofs.Lateness.{below, late_breaks, late_least, on_time}
 use Rattle.promise.proofs.Lists.{add_new, add_old, apart_none, distinct_add_apart, in_add, in_map, map_in}
 use Rattle.promise.proofs.Meets.{message_takes_sound, messages_sound}
-use Rattle.promise.proofs.Packets.{Flows, flows, found_made, packets_meet, same_packet, takes_are, takes_meet}
+use Rattle.promise.proofs.Packets.{Flows, flows, found_made, packets_meet, same_packet, same_some, takes_are, takes_meet}
 use Rattle.promise.proofs.Takes.{timely_made, timely_sent}
 
 module _ (g : Setting) (most : ℕ) (few : most ≤ 64) (laws : Lawful most g.network) (js : Jobs) (m : Message) (s d : Task) (r : List ℕ)
@@ -172,9 +172,6 @@ module _ (g : Setting) (most : ℕ) (few : most ≤ 64) (laws : Lawful most g.ne
       let h = broken.messages m (add_new message_name m js.messages) in
       late_breaks g most few laws s d m source_timely destination_timely timely r p.ways.along v is (at_once h)
     where
-      same_some : {X : Type 0} {o : Option X} (x y : X) → o ≡ Some x → o ≡ Some y → x ≡ y
-      same_some x y a b = let e : Some x ≡ Some y = sym a ∙ b in cc
-
       at_once : MessageMade g js.tasks m → OnTime g s d m r
       at_once h =
           let es : h.source ≡ s = same_some h.source s h.ways.from p.ways.from in

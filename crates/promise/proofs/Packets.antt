@@ -43,7 +43,8 @@ flows g js clean m h =
       fits = h.fits;
     }
 
-same_some : {X : Type 0} {o : Option X} (x y : X) → o ≡ Some x → o ≡ Some y → x ≡ y
+-- an option has one value
+pub same_some : {X : Type 0} {o : Option X} (x y : X) → o ≡ Some x → o ≡ Some y → x ≡ y
 same_some x y p q = let e : Some x ≡ Some y = sym p ∙ q in cc
 
 -- what a message's packets take is found by the names of its tasks
