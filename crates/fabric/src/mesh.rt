@@ -18,5 +18,5 @@ pub struct Mesh {
 }
 
 // A size or a hop delay outside the limits: refusal 3.
-#[derive(Clone, Copy)]
+#[derive(Clone, Copy, PartialEq, Eq, Debug)]
 pub struct SizeFault;

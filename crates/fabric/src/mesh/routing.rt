@@ -41,12 +41,11 @@ impl Mesh {
         })
     }
 
-    // The link out of the node at a column and row.
-    fn link_out(&self, x: usize, y: usize, toward: Direction) -> usize
-        requires { (x < 8) × (y < 8) }
-        ensures { result ≡ 4 * node self.now.columns x y + direction_number toward }
+    // The link out of the node at a spot.
+    fn link_out(&self, spot: Spot, toward: Direction) -> usize
+        ensures { result ≡ 4 * node self.now.columns spot.x spot.y + direction_number toward }
     {
-        toward.link(x + self.columns as usize * y)
+        toward.link(spot.x + self.columns as usize * spot.y)
     }
 
     // The link at a place of the path from one spot to another.
@@ -56,20 +55,26 @@ impl Mesh {
     {
         let across = from.x.abs_diff(to.x);
         if place < across {
+            let y = from.y;
             return Some(if from.x < to.x {
-                self.link_out(from.x + place, from.y, Direction::East)
+                let x = from.x + place;
+                self.link_out(Spot { x, y }, Direction::East)
             } else {
-                self.link_out(from.x - place, from.y, Direction::West)
+                let x = from.x - place;
+                self.link_out(Spot { x, y }, Direction::West)
             });
         }
         let rest = place - across;
         if rest >= from.y.abs_diff(to.y) {
             return None;
         }
+        let x = to.x;
         Some(if from.y < to.y {
-            self.link_out(to.x, from.y + rest, Direction::North)
+            let y = from.y + rest;
+            self.link_out(Spot { x, y }, Direction::North)
         } else {
-            self.link_out(to.x, from.y - rest, Direction::South)
+            let y = from.y - rest;
+            self.link_out(Spot { x, y }, Direction::South)
         })
     }
 }
