@@ -1,5 +1,5 @@
 -- The search for a route among the records, and what the found record answers. Assumes nothing.
-use Rattle.std.proofs.Common.{◌≡◌, ℕ, zero, suc, ◌+◌, ◌/◌, ◌<◌, ◌≤◌, Bool, true, false, cond, ◌&&◌, eqb, ltb, List, length, get_or, Some, None, Option, refl, add-zero, sym, ap, ◌∙◌, subst, ⊎_elim, arith, length-take}
+use Rattle.std.proofs.Common.{◌≡◌, ℕ, zero, suc, ◌+◌, ◌<◌, Bool, true, false, cond, ◌&&◌, eqb, List, Some, None, Option, refl, add-zero, sym, ap, ◌∙◌, ⊎_elim, arith}
 use denote.Param.Members.{Mut}
 use Rattle.std.proofs.iter.Yields.{nat_range_steps}
 use Rattle.std.proofs.iter.runs.Sources.{range_runs}
@@ -7,16 +7,10 @@ use Rattle.std.specs.declared.ops.Range.{Range}
 use Rattle.std.specs.Bool.{IsTrue, then_some}
 use Rattle.std.specs.Fn.{Called}
 use Rattle.std.specs.Iterator.Runs.{AllItemsGive, CallKeepsClosure, IsFirstToGive, SomeRun}
-use Rattle.std.specs.List.{slice_get}
 use Rattle.std.specs.Option.{IsSomeAnd, MatchOption, option_map}
-use Rattle.std.proofs.lemmas.List.{get_or-take}
-use Rattle.std.proofs.lemmas.Option.{slice_get-get_or}
 use Rattle.std.proofs.lemmas.Bool.{lt-ltb, ne_eqb, eq-eqb, and_from, and_left, and_right, cases_eq, cond-true, cond-false}
 use Rattle.records.specs.declared.record.Route.{Route}
-use Rattle.records.specs.Forms.{route_of, route_in}
-use Rattle.records.specs.Sections.{record_bytes}
-use Rattle.listed.specs.Records.{route_count, route_at, route_prior, route_links, route_good, pick, seek, Stands, listed_route}
-use Rattle.listed.specs.Sound.{guarded, good_parts}
+use Rattle.listed.specs.Records.{route_count, route_at, route_links, pick, seek, listed_route}
 
 -- the test of another pair fails
 other_pair : (x y a b : ℕ) → (x ≡ a → y ≡ b → ⊥) → (eqb x a && eqb y b) ≡ false
@@ -106,32 +100,6 @@ module _ (rs : List ℕ) (a b : ℕ) where
         sym (seek_first 0 n i y (omega (arith, m.0, first.1))
         (answer_at (p.at i) (0 + i) (Some y) (m.3 i first.1 ∙ ap Some e) (given (p.at i) (Some y) called.0))
         (λ j h. let e' : p.from.start + j ≡ 0 + j = omega arith in answer_at (p.at j) (0 + j) None (m.3 j (omega (arith, first.1)) ∙ ap Some e') (given (p.at j) None (called.1 j h))))
-
--- a record that was read has twelve link numbers
-pub links_long : (rs : List ℕ) (k : ℕ) (r : Route) → route_at rs k ≡ Some r → length r.links ≡ 12
-links_long rs k r here =
-    let bs = record_bytes 16 rs k in
-    let g = guarded (ltb k (route_count rs)) (route_of bs) r here in
-    let h = guarded (eqb (get_or bs 3 0) 0) (Some (route_in bs)) r g.1 in
-    let e : route_in bs ≡ r = cc h.1 in
-    sym (ap (λ x. length x.links) e)
-
--- the answers of a record that was found
-module _ (n : ℕ) (ls rs : List ℕ) (r : Route) (stands : Stands rs r)
-    (routed : (k : ℕ) → k < length rs / 16 → route_good n ls (route_prior rs k) (route_at rs k) ≡ true) where
-  -- its length is at most 12
-  pub found_short : r.length ≤ 12
-  found_short =
-      let k = stands.place in
-      (good_parts n ls (route_prior rs k) r (subst (λ o. route_good n ls (route_prior rs k) o ≡ true) stands.here (routed k stands.counted))).short
-
-  -- it has as many links as its length says
-  pub found_length : length (route_links r) ≡ r.length
-  found_length = simp length-take (omega (arith, found_short, links_long rs stands.place r stands.here))
-
-  -- its link at a place
-  pub found_place : (i : ℕ) → i < r.length → slice_get (route_links r) i ≡ Some (get_or r.links i 0)
-  found_place i h = slice_get-get_or (route_links r) i 0 (omega (arith, found_length)) ∙ ap Some (get_or-take r.length r.links i 0 h)
 
 -- the route between two different nodes is what the search finds
 pub route_found : (n : ℕ) (rs : List ℕ) (a b : ℕ) (o : Option (List ℕ)) → a < n → b < n → (a ≡ b → ⊥) → o ≡ seek rs a b 0 (route_count rs) → listed_route n rs a b ≡ o

@@ -1,6 +1,6 @@
 // What a listed fabric answers: its links and routes stand in the records.
 ghost use Rattle.std.proofs.Common.{lit≤};
-ghost use Rattle.std.specs.Prelude.{◌≡◌, IfSome};
+ghost use Rattle.std.specs.Prelude.{◌≡◌, ◌≢◌, IfSome, None, length};
 ghost use Rattle.std.specs.Option.{option_map};
 ghost use Rattle.listed.specs.Records.{seek, route_count, route_links, Stands};
 ghost use Rattle.listed.specs.Setting.{setting_of, network};
@@ -47,25 +47,33 @@ impl<'a> Fabric for Listed<'a> {
     }
 
     fn route_len(&self, from: usize, to: usize) -> Option<usize> {
-        if from >= self.nodes as usize || to >= self.nodes as usize {
-            return None;
-        }
-        if from == to {
+        if from == to && from < self.nodes() {
             return Some(0);
         }
-        let route = find(&self.routes, from, to)?;
+        let route = self.between(from, to)?;
         Some(route.length as usize)
     }
 
     fn route_link(&self, from: usize, to: usize, place: usize) -> Option<usize> {
-        if from >= self.nodes as usize || to >= self.nodes as usize || from == to {
-            return None;
-        }
-        let route = find(&self.routes, from, to)?;
+        let route = self.between(from, to)?;
         if place >= route.length as usize {
             return None;
         }
         Some(route.links[place] as usize)
+    }
+}
+
+impl Listed<'_> {
+    // The record of the route between two different nodes, and none from a node to itself.
+    fn between(&self, from: usize, to: usize) -> Option<Route>
+        ensures apart { from ≢ to → (network (setting_of self.now)).route from to ≡ option_map route_links result }
+        ensures same { from ≡ to → result ≡ None }
+        ensures long { IfSome result (λ r. length (route_links r) ≡ r.length) }
+    {
+        if from == to || from >= self.nodes() || to >= self.nodes() {
+            return None;
+        }
+        find(&self.routes, from, to)
     }
 }
 
