@@ -32,7 +32,7 @@ module _ {E : Type 0} (f : ℕ → Option E) where
   check_here : (k n : ℕ) (e : E) → k < n → checked (f k) ≡ Err e → Err e ≡ checked (first_fault f k (n - k))
   check_here k n e h refuses = ends (f k) refl refuses where
     ends : (o : Option E) → f k ≡ o → checked o ≡ Err e → Err e ≡ checked (first_fault f k (n - k))
-    ends None is r = let z : ◌≡◌ {A = ℕ} 0 1 = cc in absurd (omega arith)
+    ends None is r = cc
     ends (Some x) is r = sym r ∙ ap checked (sym (first_here k n x h is))
 
   -- a check that passes leads on to the next
@@ -40,12 +40,12 @@ module _ {E : Type 0} (f : ℕ → Option E) where
   check_pass k n h passes = on (f k) refl passes where
     on : (o : Option E) → f k ≡ o → checked o ≡ Ok tt → first_fault f k (n - k) ≡ first_fault f (k + 1) (n - (k + 1))
     on None is r = first_pass k n h is
-    on (Some x) is r = let z : ◌≡◌ {A = ℕ} 0 1 = cc in absurd (omega arith)
+    on (Some x) is r = cc
 
   -- of two without a fault neither has one
   front_none : (o p : Option E) → either o p ≡ None → (o ≡ None) × (p ≡ None)
   front_none None p e = (refl, e)
-  front_none (Some x) p e = let z : ◌≡◌ {A = ℕ} 0 1 = cc in absurd (omega arith)
+  front_none (Some x) p e = cc
 
   -- where no fault was found, no record has one
   first_none : (k m : ℕ) → first_fault f k m ≡ None → (i : ℕ) → i < m → f (k + i) ≡ None
@@ -98,7 +98,7 @@ module _ {E F : Type 0} (fault : ℕ → Option E) (g : Mut F (ℕ × Unit {0}) 
 -- a test that had to come out true
 passed : {E : Type 0} (t : Bool) (o : Option E) (e : E) → cond t o (Some e) ≡ None → (t ≡ true) × (o ≡ None)
 passed true o e h = (refl, h)
-passed false o e h = let z : ◌≡◌ {A = ℕ} 0 1 = cc in absurd (omega arith)
+passed false o e h = cc
 
 -- without a fault each link record is good
 pub links_good : (n : ℕ) (ls : List ℕ) → links_fault n ls ≡ None → (l : ℕ) → l < link_count ls → link_good n (link_at ls l) ≡ true
@@ -108,7 +108,7 @@ links_good n ls none l h =
 
 -- a route record without a fault is good
 record_good : (n : ℕ) (ls : List ℕ) (prior : Option RouteRecord) (k : ℕ) (o : Option RouteRecord) → record_fault n ls prior k o ≡ None → route_good n ls prior o ≡ true
-record_good n ls prior k None here = let z : ◌≡◌ {A = ℕ} 0 1 = cc in absurd (omega arith)
+record_good n ls prior k None here = cc
 record_good n ls prior k (Some r) here =
     let order = cond (route_above prior r) None (Some (Order k)) in
     let p = passed (route_shape n r && route_names (link_count ls) r) (cond (route_leads ls r) order (Some (Chain k))) (Route k) here in

@@ -41,12 +41,12 @@ above_before q r h =
 
 -- a good record is a record
 some_link : (n : ℕ) (o : Option Link) → link_good n o ≡ true → (x : Link) × (o ≡ Some x)
-some_link n None h = let z : ◌≡◌ {A = ℕ} 0 1 = cc in absurd (omega arith)
+some_link n None h = cc
 some_link n (Some x) h = (x, refl)
 
 -- the same of a route, with what makes it good
 some_route : (n : ℕ) (ls : List ℕ) (prior o : Option Route) → route_good n ls prior o ≡ true → (r : Route) × (o ≡ Some r) × GoodParts n ls prior r
-some_route n ls prior None h = let z : ◌≡◌ {A = ℕ} 0 1 = cc in absurd (omega arith)
+some_route n ls prior None h = cc
 some_route n ls prior (Some r) h = (r, refl, good_parts n ls prior r h)
 
 module _ (n : ℕ) (ls rs : List ℕ)
@@ -112,12 +112,12 @@ module _ (n : ℕ) (ls rs : List ℕ)
 -- an answer after a part without a fault
 then_parts : {T U E : Type 0} (r : Result T E) (f : T → Result U E) (v : U) → then r f ≡ Ok v → (x : T) × (f x ≡ Ok v)
 then_parts (Ok x) f v h = (x, h)
-then_parts (Err e) f v h = let z : ◌≡◌ {A = ℕ} 0 1 = cc in absurd (omega arith)
+then_parts (Err e) f v h = cc
 
 -- an answer where nothing was found wrong
 unless_parts : {T E : Type 0} (o : Option E) (r : Result T E) (v : T) → unless o r ≡ Ok v → (o ≡ None) × (r ≡ Ok v)
 unless_parts None r v h = (refl, h)
-unless_parts (Some e) r v h = let z : ◌≡◌ {A = ℕ} 0 1 = cc in absurd (omega arith)
+unless_parts (Some e) r v h = cc
 
 -- a setting without faults is of its records
 faultless : (s : Setting) → links_fault s.nodes s.links ≡ None → routes_fault s.nodes s.links s.routes ≡ None → OfRecords s

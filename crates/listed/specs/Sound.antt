@@ -13,16 +13,16 @@ use Rattle.listed.specs.Records.{link_count, link_at, route_at, route_prior, lin
 -- an answer that stands behind a test
 pub guarded : {X : Type 0} (t : Bool) (o : Option X) (v : X) → cond t o None ≡ Some v → (t ≡ true) × (o ≡ Some v)
 guarded true o v e = (refl, e)
-guarded false o v e = let z : ◌≡◌ {A = ℕ} 0 1 = cc in absurd (omega arith)
+guarded false o v e = cc
 
 -- an answer made of another
 pub mapped_parts : {X Y : Type 0} (f : X → Y) (o : Option X) (v : Y) → option_map f o ≡ Some v → (x : X) × (o ≡ Some x) × (f x ≡ v)
-mapped_parts f None v e = let z : ◌≡◌ {A = ℕ} 0 1 = cc in absurd (omega arith)
+mapped_parts f None v e = cc
 mapped_parts f (Some x) v e = (x, refl, cc)
 
 -- a link that leads on
 hop_parts : (o : Option Link) (a : ℕ) (onward : ℕ → Bool) → hop o a onward ≡ true → (x : Link) × (o ≡ Some x) × (x.from ≡ a) × (onward x.to ≡ true)
-hop_parts None a onward h = let z : ◌≡◌ {A = ℕ} 0 1 = cc in absurd (omega arith)
+hop_parts None a onward h = cc
 hop_parts (Some x) a onward h =
     let p = and_parts (x.from == a) (onward x.to) h in
     (x, refl, eqb-true _ _ p.0, p.1)
@@ -107,7 +107,7 @@ pick_cases (Some x) a b further r is =
 
 -- a search that answers has found a record of the pair
 pub seek_sound : (rs : List ℕ) (a b k n : ℕ) (r : List ℕ) → seek rs a b k n ≡ Some r → Found rs a b k n r
-seek_sound rs a b k zero r is = let z : ◌≡◌ {A = ℕ} 0 1 = cc in absurd (omega arith)
+seek_sound rs a b k zero r is = cc
 seek_sound rs a b k (suc n) r is =
     elim (pick_cases (route_at rs k) a b (seek rs a b (k + 1) n) r is) [
       | inl p ↦ record { place = k; within = omega arith; route = p.0; here = p.1; leaves = p.2; enters = p.3; links = p.4 }

@@ -1,12 +1,85 @@
 // The checks of link and route records: each finds the first record with a fault.
-ghost use Rattle.std.specs.Prelude.{◌≡◌, ◌≤◌, true};
-ghost use Rattle.listed.specs.Records.{link_good, chain_good, once_good, all_below, route_shape, route_names, route_leads, route_above, route_prior};
+ghost use Rattle.std.specs.Prelude.{◌≡◌, ◌&&◌, true, false, MatchOption};
+ghost use Rattle.listed.specs.Records.{link_good, link_count, chain_good, once_good, all_below, route_shape, route_names, route_links, route_leads, route_above, route_prior};
 ghost use Rattle.listed.specs.Setting.{links_fault, link_fault, route_fault, routes_fault};
 ghost use Rattle.refusals.specs.Told.{checked};
 
 use super::SetFault;
 use records::record::{Link, Route};
 use records::section::Section;
+
+// A file's count of nodes and its links, which its routes are checked against.
+#[derive(Drop)]
+pub(crate) struct Links<'a> {
+    pub(crate) nodes: u8,
+    pub(crate) section: Section<'a, Link>,
+}
+
+impl Links<'_> {
+    fn check_link(&self, l: usize) -> Result<(), SetFault>
+        ensures { result ≡ checked (link_fault self.now.nodes self.now.section.bytes.now l) }
+    {
+        if !joins(self.nodes, self.section.get(l)) {
+            return Err(SetFault::Link(l));
+        }
+        Ok(())
+    }
+
+    // The links, up to the first fault.
+    pub(crate) fn check(&self) -> Result<(), SetFault>
+        ensures { result ≡ checked (links_fault self.now.nodes self.now.section.bytes.now) }
+    {
+        (0..self.section.count()).try_for_each(|l| self.check_link(l))
+    }
+
+    // The link numbers of a route with two different nodes, 1 to 12 numbers that are those of links, and zeros in the places
+    // behind them.
+    fn numbers<'r>(&self, route: &'r Route) -> Option<&'r [u8]>
+        ensures { let fits = route_shape self.now.nodes route.now && route_names (link_count self.now.section.bytes.now) route.now in MatchOption result (fits ≡ false) (λ ns. (fits ≡ true) × (ns.now ≡ route_links route.now)) }
+    {
+        let (numbers, unused) = route.links.split_at_checked(route.length as usize)?;
+        let apart = route.from < self.nodes && route.to < self.nodes && route.from != route.to;
+        let named = below(numbers, self.section.count()) && below(unused, 1);
+        (apart && !numbers.is_empty() && named).then_some(numbers)
+    }
+
+    // Whether the numbers lead from one node to the other.
+    fn follows(&self, from: u8, numbers: &[u8], to: u8) -> bool
+        ensures { result ≡ chain_good self.now.section.bytes.now from numbers.now to }
+    {
+        match numbers {
+            [] => from == to,
+            [n, rest @ ..] => {
+                let Some(link) = self.section.get(*n as usize) else {
+                    return false;
+                };
+                link.from == from && self.follows(link.to, rest, to)
+            }
+        }
+    }
+
+    // A route record, by its checks in order.
+    fn check_route(&self, routes: &Section<'_, Route>, k: usize) -> Result<(), SetFault>
+        ensures { result ≡ checked (route_fault self.now.nodes self.now.section.bytes.now routes.now.bytes.now k) }
+    {
+        let route = routes.get(k).ok_or(SetFault::Route(k))?;
+        let numbers = self.numbers(&route).ok_or(SetFault::Route(k))?;
+        if !self.follows(route.from, numbers, route.to) || !distinct(numbers) {
+            return Err(SetFault::Chain(k));
+        }
+        if !above(before(routes, k), &route) {
+            return Err(SetFault::Order(k));
+        }
+        Ok(())
+    }
+
+    // The routes, up to the first fault.
+    pub(crate) fn check_routes(&self, routes: &Section<'_, Route>) -> Result<(), SetFault>
+        ensures { result ≡ checked (routes_fault self.now.nodes self.now.section.bytes.now routes.now.bytes.now) }
+    {
+        (0..routes.count()).try_for_each(|k| self.check_route(routes, k))
+    }
+}
 
 // Whether there is a link, from one node of the fabric to another.
 fn joins(nodes: u8, link: Option<Link>) -> bool
@@ -15,40 +88,11 @@ fn joins(nodes: u8, link: Option<Link>) -> bool
     link.is_some_and(|x| x.from < nodes && x.to < nodes && x.from != x.to)
 }
 
-fn check_link(nodes: u8, links: &Section<'_, Link>, l: usize) -> Result<(), SetFault>
-    ensures { result ≡ checked (link_fault nodes links.now.bytes.now l) }
-{
-    if !joins(nodes, links.get(l)) {
-        return Err(SetFault::Link(l));
-    }
-    Ok(())
-}
-
-// The links, up to the first fault.
-pub(crate) fn check_links(nodes: u8, links: &Section<'_, Link>) -> Result<(), SetFault>
-    ensures { result ≡ checked (links_fault nodes links.now.bytes.now) }
-{
-    (0..links.count()).try_for_each(|l| check_link(nodes, links, l))
-}
-
 // Whether each number is below a limit.
 fn below(numbers: &[u8], limit: usize) -> bool
     ensures { result ≡ all_below limit numbers.now }
 {
     numbers.iter().all(|n| (*n as usize) < limit)
-}
-
-// Whether the numbers, a route's twelve at most, lead from one node to the other.
-fn follows(links: &Section<'_, Link>, from: u8, numbers: &[u8], to: u8) -> bool
-    ensures { result ≡ chain_good links.now.bytes.now from numbers.now to }
-{
-    match numbers {
-        [] => from == to,
-        [n, rest @ ..] => match links.get(*n as usize) {
-            Some(link) => link.from == from && follows(links, link.to, rest, to),
-            None => false,
-        },
-    }
 }
 
 // Whether no number stands twice.
@@ -61,37 +105,7 @@ fn distinct(numbers: &[u8]) -> bool
     }
 }
 
-// Whether a route has two different nodes of the fabric and a length from 1 to 12.
-fn shaped(nodes: u8, route: &Route) -> bool
-    ensures answer { result ≡ route_shape nodes route.now }
-    ensures short { result ≡ true → route.now.length ≤ 12 }
-{
-    route.from < nodes
-        && route.to < nodes
-        && route.from != route.to
-        && 1 <= route.length
-        && route.length <= 12
-}
-
-// Whether its numbers are those of links, and the unused ones zero.
-fn names(limit: usize, route: &Route) -> bool
-    requires { route.now.length ≤ 12 }
-    ensures { result ≡ route_names limit route.now }
-{
-    let (numbers, unused) = route.links.split_at(route.length as usize);
-    below(numbers, limit) && below(unused, 1)
-}
-
-// Whether its links are a chain from its first node to its second, none twice.
-fn leads(links: &Section<'_, Link>, route: &Route) -> bool
-    requires { route.now.length ≤ 12 }
-    ensures { result ≡ route_leads links.now.bytes.now route.now }
-{
-    let numbers = &route.links[..route.length as usize];
-    follows(links, route.from, numbers, route.to) && distinct(numbers)
-}
-
-// Whether it is above the record before it, by from and then by to.
+// Whether a route is above the record before it, by from and then by to.
 fn above(prior: Option<Route>, route: &Route) -> bool
     ensures { result ≡ route_above prior route.now }
 {
@@ -103,37 +117,4 @@ fn before(routes: &Section<'_, Route>, k: usize) -> Option<Route>
     ensures { result ≡ route_prior routes.now.bytes.now k }
 {
     routes.get(k.checked_sub(1)?)
-}
-
-// A route record, by its checks in order.
-fn check_route(
-    nodes: u8,
-    links: &Section<'_, Link>,
-    routes: &Section<'_, Route>,
-    k: usize,
-) -> Result<(), SetFault>
-    ensures { result ≡ checked (route_fault nodes links.now.bytes.now routes.now.bytes.now k) }
-{
-    let route = routes.get(k).ok_or(SetFault::Route(k))?;
-    if !shaped(nodes, &route) || !names(links.count(), &route) {
-        return Err(SetFault::Route(k));
-    }
-    if !leads(links, &route) {
-        return Err(SetFault::Chain(k));
-    }
-    if !above(before(routes, k), &route) {
-        return Err(SetFault::Order(k));
-    }
-    Ok(())
-}
-
-// The routes, up to the first fault.
-pub(crate) fn check_routes(
-    nodes: u8,
-    links: &Section<'_, Link>,
-    routes: &Section<'_, Route>,
-) -> Result<(), SetFault>
-    ensures { result ≡ checked (routes_fault nodes links.now.bytes.now routes.now.bytes.now) }
-{
-    (0..routes.count()).try_for_each(|k| check_route(nodes, links, routes, k))
 }

@@ -5,7 +5,7 @@ ghost use Rattle.listed.specs.Told.{set_told};
 ghost use Rattle.refusals.specs.Told.{refusal_of};
 ghost use Rattle.listed.specs.Setting.{setting_of, alone, head_fits, listed_head, section_read, setting_read};
 
-use super::checks::{check_links, check_routes};
+use super::checks::Links;
 use super::{Listed, SectionFault, SetFault};
 use records::head::{FabricKind, Head, HeadFault, read_head};
 use records::record::Record;
@@ -64,14 +64,18 @@ impl<'a> Listed<'a> {
         ensures refused { is_ok result ≡ false → self.new ≡ self.old }
     {
         let (head, body) = read_listed_head(file)?;
-        let (links, tail) = read_section(body, 128).map_err(SetFault::Links)?;
-        check_links(head.x, &links)?;
+        let (section, tail) = read_section(body, 128).map_err(SetFault::Links)?;
+        let links = Links {
+            nodes: head.x,
+            section,
+        };
+        links.check()?;
         let (routes, rest) = read_section(tail, 256).map_err(SetFault::Routes)?;
-        check_routes(head.x, &links, &routes)?;
+        links.check_routes(&routes)?;
         *self = Listed {
             nodes: head.x,
             delay: head.delay,
-            links,
+            links: links.section,
             routes,
         };
         Ok(rest)

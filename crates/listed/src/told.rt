@@ -5,8 +5,8 @@ ghost use Rattle.std.specs.Prelude.{◌≡◌};
 use super::{SectionFault, SetFault};
 use refusals::refusal::{Part, Refusal, Told};
 
-// The section stands beside the fault, so this is no `From`.
 impl SectionFault {
+    // The section is a plain byte: anyone may call this, with any number. It stands beside the fault, so this is no `From`.
     pub fn told(self, section: u8) -> Told
         ensures { result ≡ section_told section self }
     {

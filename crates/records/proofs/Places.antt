@@ -43,18 +43,18 @@ spot_named f n (x ∷ xs) =
 
 -- a place one further on comes from a place
 step : (o : Option ℕ) (i : ℕ) → option_map suc o ≡ Some i → (k : ℕ) × (o ≡ Some k) × (i ≡ suc k)
-step None i e = let z : ◌≡◌ {A = ℕ} 0 1 = cc in absurd (omega arith)
+step None i e = cc
 step (Some k) i e = (k, refl, cc)
 
 -- no place at all: not here, and not further on
 apart : (b : Bool) (o : Option ℕ) → cond b (Some 0) (option_map suc o) ≡ None → (b ≡ false) × (o ≡ None)
-apart true o e = let z : ◌≡◌ {A = ℕ} 0 1 = cc in absurd (omega arith)
+apart true o e = cc
 apart false None e = (refl, refl)
-apart false (Some k) e = let z : ◌≡◌ {A = ℕ} 0 1 = cc in absurd (omega arith)
+apart false (Some k) e = cc
 
 -- not found at all: not this one, and none of the rest
 missed : {X : Type 0} (b : Bool) (x : X) (o : Option X) → cond b (Some x) o ≡ None → (b ≡ false) × (o ≡ None)
-missed true x o e = let z : ◌≡◌ {A = ℕ} 0 1 = cc in absurd (omega arith)
+missed true x o e = cc
 missed false x o e = (refl, e)
 
 above : (a b : ℕ) → b ≤ a → (a ≡ b → ⊥) → b < a
@@ -75,7 +75,7 @@ module _ {X : Type 0} (f : X → ℕ) where
 
   -- the record at a spot is the first of the name
   pub named_at : (n : ℕ) (xs : List X) (i : ℕ) (d : X) → spot f n xs ≡ Some i → named f n xs ≡ Some (get_or xs i d)
-  named_at n [] i d e = let z : ◌≡◌ {A = ℕ} 0 1 = cc in absurd (omega arith)
+  named_at n [] i d e = cc
   named_at n (x ∷ xs) i d e =
       (elim (eqb (f x) n) as (λ b. cond b (Some 0) (option_map suc (spot f n xs)) ≡ Some i → cond b (Some x) (named f n xs) ≡ Some (get_or (x ∷ xs) i d)) [
         | true ↦ λ z. let j : 0 ≡ i = cc in subst (λ k. Some x ≡ Some (get_or (x ∷ xs) k d)) j refl
@@ -92,7 +92,7 @@ module _ {X : Type 0} (f : X → ℕ) where
 
   -- a spot is within, and to take it out is to leave its name out
   pub spot_within : (n : ℕ) (xs : List X) (i : ℕ) → spot f n xs ≡ Some i → (i < length xs) × (remove xs i ≡ without f n xs)
-  spot_within n [] i e = let z : ◌≡◌ {A = ℕ} 0 1 = cc in absurd (omega arith)
+  spot_within n [] i e = cc
   spot_within n (x ∷ xs) i e =
       (elim (eqb (f x) n) as (λ b. cond b (Some 0) (option_map suc (spot f n xs)) ≡ Some i → (i < suc (length xs)) × (remove (x ∷ xs) i ≡ cond b xs (x ∷ without f n xs))) [
         | true ↦ λ z. let j : 0 ≡ i = cc in (omega arith, subst (λ k. remove (x ∷ xs) k ≡ xs) j refl)

@@ -11,9 +11,9 @@ module _ {R : Type 0} where
 
   -- what was read with a record in front
   front_parts : (k : ℕ) (o : Option R) (r : Result (List R) ℕ) (xs : List R) → in_front k o r ≡ Ok xs → (x : R) × (ys : List R) × (o ≡ Some x) × (r ≡ Ok ys) × (xs ≡ x ∷ ys)
-  front_parts k None r xs e = let z : ◌≡◌ {A = ℕ} 0 1 = cc in absurd (omega arith)
+  front_parts k None r xs e = cc
   front_parts k (Some x) (Ok ys) xs e = (x, ys, refl, refl, cc)
-  front_parts k (Some x) (Err j) xs e = let z : ◌≡◌ {A = ℕ} 0 1 = cc in absurd (omega arith)
+  front_parts k (Some x) (Err j) xs e = cc
 
 module _ {R : Type 0} (at : ℕ → Option R) where
   -- the first fault is the first place without a record

@@ -31,4 +31,4 @@ same_bytes (suc k) bs i after h =
 -- what was read under a test
 pub chosen : {R : Type 0} (b : Bool) (y x : R) → cond b (Some y) None ≡ Some x → (b ≡ true) × (y ≡ x)
 chosen true y x e = (refl, cc)
-chosen false y x e = let z : ◌≡◌ {A = ℕ} 0 1 = cc in absurd (omega arith)
+chosen false y x e = cc

@@ -8,7 +8,7 @@ use Rattle.listed.proofs.Listed.set.Goals as goal
 pub invariant_of-self : goal.invariant_of-self
 invariant_of-self c =
     let h = c.in_ok-head.head in
-    let ls = c.in_ok-links.links.bytes.now in
+    let ls = c.in_ok-section.section.bytes.now in
     let rs = c.in_ok-routes.routes.bytes.now in
     let limits = head_limits c.args.file.now h c.in_ok-head.body.now c.in_ok-head.ensures in
     let linked : links_fault h.x ls ≡ None = search rules in

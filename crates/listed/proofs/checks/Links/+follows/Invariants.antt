@@ -1,5 +1,5 @@
 use Rattle.std.proofs.Common.{length}
-use Rattle.listed.proofs.checks.+follows.Given as goal
+use Rattle.listed.proofs.checks.Links.+follows.Given as goal
 
 abbrev pub decreases-follows : goal.decreases-follows
 decreases-follows l = length l.numbers.now
