@@ -144,7 +144,3 @@ module _ {X : Type 0} (f : X → ℕ) where
   -- a place among the first k is at most k
   pub place_held : (n k : ℕ) (xs : List X) (p : ℕ) → k ≤ length xs → p ≡ place f n (take k xs) → p ≤ k
   place_held n k xs p h at = omega (arith, place_within n (take k xs), length-take-le k xs h)
-
-  -- a spot among the first k is below k, and to take its record out is to leave its name out
-  pub spot_held : (n k : ℕ) (xs : List X) (i : ℕ) → k ≤ length xs → Some i ≡ spot f n (take k xs) → (i < k) × (remove (take k xs) i ≡ without f n (take k xs))
-  spot_held n k xs i h at = let w = spot_within n (take k xs) i (sym at) in (omega (arith, w.0, length-take-le k xs h), w.1)

@@ -1,62 +1,46 @@
--- A record put in, or taken out, by one turn of a part of the table. Assumes nothing.
-use Rattle.std.proofs.Common.{◌≡◌, ℕ, suc, ◌+◌, ◌-◌, ◌<◌, ◌≤◌, List, [], ◌∷◌, ◌++◌, length, take, drop, set, sym, ap, ◌∙◌, add_comm, add-one, arith}
-use Rattle.std.specs.List.{insert, remove, between}
+-- A record put into a part of a table, or taken out, by one turn from its place on. Assumes nothing.
+use Rattle.std.proofs.Common.{◌≡◌, ℕ, suc, ◌+◌, ◌-◌, ◌<◌, ◌≤◌, List, [], ◌∷◌, ◌++◌, length, take, drop, set, sym, ap, ◌∙◌, add-one, arith}
+use Rattle.std.specs.List.{insert, remove}
 use borrow.Rule.Slice.PartMut.{put_mid}
-use Rattle.std.proofs.lemmas.List.{take_more_set, take-set-le, take-take, drop-append-le, take_at, drop_at, length_push, length-take-le, length-drop, length-append, length-set, append_assoc, take-append-drop, drop-drop, drop-set-lt}
-use Rattle.std.proofs.lemmas.Slice.{between_is, take-put_mid, drop-put_mid}
+use Rattle.std.proofs.lemmas.List.{take_more_set, take-append-le, drop-append-le, take_all, drop_all, take_at, drop_at, length_push, length-take-le, length-drop, length-set, append_assoc, append-nil, drop-drop}
 
 module _ {X : Type 0} where
-  -- x goes in among the first n: the part from its place on, with x behind it, is turned to q
-  pub turned_in : (xs : List X) (n at : ℕ) (x : X) (q : List X) → n < length xs → at ≤ n →
-      q ≡ drop (length (between at (n + 1) (set xs n x)) - 1) (between at (n + 1) (set xs n x)) ++ take (length (between at (n + 1) (set xs n x)) - 1) (between at (n + 1) (set xs n x)) →
-      take (n + 1) (put_mid at (n + 1 - at) (set xs n x) q) ≡ insert (take n xs) at x
-  turned_in xs n at x q room within e =
-      let long : length (take n xs) ≡ n = length-take-le n xs (omega arith) in
-      let fits : at ≤ length (take n xs) = omega arith in
-      let part : between at (n + 1) (set xs n x) ≡ drop at (take n xs) ++ x ∷ [] =
-      between_is (set xs n x) at (n + 1) ∙ ap (drop at) (take_more_set xs n x room) ∙ drop-append-le at (take n xs) (x ∷ []) fits in
-      let less : length (drop at (take n xs)) ≡ length (between at (n + 1) (set xs n x)) - 1 =
-      omega (arith, ap length part, length_push (drop at (take n xs)) x) in
-      let back : drop (length (between at (n + 1) (set xs n x)) - 1) (between at (n + 1) (set xs n x)) ≡ x ∷ [] =
-      ap (drop (length (between at (n + 1) (set xs n x)) - 1)) part ∙ drop_at (drop at (take n xs)) (x ∷ []) _ less in
-      let front : take (length (between at (n + 1) (set xs n x)) - 1) (between at (n + 1) (set xs n x)) ≡ drop at (take n xs) =
-      ap (take (length (between at (n + 1) (set xs n x)) - 1)) part ∙ take_at (drop at (take n xs)) (x ∷ []) _ less in
-      let is : q ≡ x ∷ drop at (take n xs) = cc in
-      let size : length q ≡ suc (length (take n xs) - at) = ap length is ∙ ap suc (length-drop at (take n xs)) in
-      let low : take at (set xs n x) ≡ take at (take n xs) = take-set-le at xs n x within ∙ sym (take-take at n xs within) in
-      let all : take (n + 1) (put_mid at (n + 1 - at) (set xs n x) q) ≡ take at (set xs n x) ++ q =
-      take-put_mid at (n + 1 - at) (set xs n x) q (n + 1) (omega arith) (omega (arith, length-set xs n x)) in
-      cc
+  -- a part from a place on is all that lies there
+  to_end : (xs : List X) (at : ℕ) → take (length xs - at) (drop at xs) ≡ drop at xs
+  to_end xs at = take_all (length xs - at) (drop at xs) (omega (arith, length-drop at xs))
 
-  -- the part without its record, and behind it the record that went out
-  pub turned_out_spare : (xs : List X) (n at : ℕ) (q : List X) → n ≤ length xs → at < n →
-      q ≡ drop 1 (between at n xs) ++ take 1 (between at n xs) →
-      take n (put_mid at (n - at) xs q) ≡ remove (take n xs) at ++ take 1 (drop at (take n xs))
-  turned_out_spare xs n at q room within e =
-      let long : length (take n xs) ≡ n = length-take-le n xs room in
-      let part : between at n xs ≡ drop at (take n xs) = between_is xs at n in
-      let rest : drop 1 (drop at (take n xs)) ≡ drop (suc at) (take n xs) = drop-drop 1 at (take n xs) ∙ ap (λ k. drop k (take n xs)) (add-one at) in
-      let is : q ≡ drop (suc at) (take n xs) ++ take 1 (drop at (take n xs)) =
-      e ∙ ap (λ p. drop 1 p ++ take 1 p) part ∙ ap (λ r. r ++ take 1 (drop at (take n xs))) rest in
-      let low : take at xs ≡ take at (take n xs) = sym (take-take at n xs (omega arith)) in
-      let size : length q ≡ n - at =
-      ap length e ∙ length-append (drop 1 (between at n xs)) (take 1 (between at n xs)) ∙ sym (length-append (take 1 (between at n xs)) (drop 1 (between at n xs)) ∙ add_comm (length (take 1 (between at n xs))) (length (drop 1 (between at n xs)))) ∙ ap length (take-append-drop 1 (between at n xs) ∙ part) ∙ length-drop at (take n xs) ∙ ap (λ k. k - at) long in
-      take-put_mid at (n - at) xs q n (omega arith) (omega arith)
-      ∙ ap (λ l. l ++ q) low ∙ ap (λ r. take at (take n xs) ++ r) is ∙ sym (append_assoc (take at (take n xs)) (drop (suc at) (take n xs)) (take 1 (drop at (take n xs))))
+  -- what stands there now ends the whole
+  put_end : (xs : List X) (at : ℕ) (q : List X) → put_mid at (length xs - at) xs q ≡ take at xs ++ q
+  put_end xs at q = ap (λ l. take at xs ++ l) (ap (λ l. q ++ l) (drop_all (length xs - at) (drop at xs) (omega (arith, length-drop at xs))) ∙ append-nil q)
 
-  -- a record goes out of the first n
-  pub turned_out : (xs : List X) (n at : ℕ) (q : List X) → n ≤ length xs → at < n →
-      q ≡ drop 1 (between at n xs) ++ take 1 (between at n xs) →
-      take (n - 1) (put_mid at (n - at) xs q) ≡ remove (take n xs) at
-  turned_out xs n at q room within e =
-      let long : length (take n xs) ≡ n = length-take-le n xs room in
-      let kept : length (take at (take n xs) ++ drop (suc at) (take n xs)) ≡ n - 1 =
-      omega (arith, length-append (take at (take n xs)) (drop (suc at) (take n xs)), length-drop (suc at) (take n xs), length-take-le at (take n xs) (omega arith)) in
-      sym (take-take (n - 1) n (put_mid at (n - at) xs q) (omega arith))
-      ∙ ap (take (n - 1)) (turned_out_spare xs n at q room within e)
-      ∙ take_at (take at (take n xs) ++ drop (suc at) (take n xs)) (take 1 (drop at (take n xs))) (n - 1) kept
+  -- the record at a place goes to the end
+  pub turned_out : (xs : List X) (at : ℕ) (q : List X) → at < length xs →
+      q ≡ drop 1 (take (length xs - at) (drop at xs)) ++ take 1 (take (length xs - at) (drop at xs)) →
+      put_mid at (length xs - at) xs q ≡ remove xs at ++ take 1 (drop at xs)
+  turned_out xs at q within e =
+      let above : drop 1 (drop at xs) ≡ drop (suc at) xs = drop-drop 1 at xs ∙ ap (λ k. drop k xs) (add-one at) in
+      let is : q ≡ drop (suc at) xs ++ take 1 (drop at xs) = e ∙ ap (λ p. drop 1 p ++ take 1 p) (to_end xs at) ∙ ap (λ r. r ++ take 1 (drop at xs)) above in
+      put_end xs at q ∙ ap (λ l. take at xs ++ l) is ∙ sym (append_assoc (take at xs) (drop (suc at) xs) (take 1 (drop at xs)))
 
-  -- what lies above stays
-  pub turned_in_rest : (xs : List X) (n at : ℕ) (x : X) (q : List X) → n < length xs → at ≤ n → length q ≡ n + 1 - at → drop (n + 1) (put_mid at (n + 1 - at) (set xs n x) q) ≡ drop (n + 1) xs
-  turned_in_rest xs n at x q room within size =
-      drop-put_mid at (n + 1 - at) (set xs n x) q (n + 1) (omega arith) (omega (arith, length-set xs n x)) size ∙ drop-set-lt (n + 1) xs n x (omega arith)
+  -- the last goes to a place
+  last_in : (xs ys : List X) (at : ℕ) (x : X) (q : List X) → at ≤ length xs → ys ≡ xs ++ x ∷ [] →
+      q ≡ drop (length (take (length ys - at) (drop at ys)) - 1) (take (length ys - at) (drop at ys)) ++ take (length (take (length ys - at) (drop at ys)) - 1) (take (length ys - at) (drop at ys)) →
+      put_mid at (length ys - at) ys q ≡ insert xs at x
+  last_in xs ys at x q within whole e =
+      let part : take (length ys - at) (drop at ys) ≡ drop at xs ++ x ∷ [] = to_end ys at ∙ ap (drop at) whole ∙ drop-append-le at xs (x ∷ []) within in
+      let less : length (drop at xs) ≡ length (drop at xs ++ x ∷ []) - 1 = omega (arith, length_push (drop at xs) x) in
+      let turned : q ≡ x ∷ drop at xs =
+      e ∙ ap (λ p. drop (length p - 1) p ++ take (length p - 1) p) part
+      ∙ ap (λ l. l ++ take (length (drop at xs ++ x ∷ []) - 1) (drop at xs ++ x ∷ [])) (drop_at (drop at xs) (x ∷ []) _ less)
+      ∙ ap (λ l. x ∷ l) (take_at (drop at xs) (x ∷ []) _ less) in
+      put_end ys at q ∙ ap (λ l. take at l ++ q) whole ∙ ap (λ l. l ++ q) (take-append-le at xs (x ∷ []) within) ∙ ap (λ l. take at xs ++ l) turned
+
+  -- x is written to the last place, and goes to its own
+  pub turned_in : (xs : List X) (at : ℕ) (x : X) (q : List X) → at < length xs →
+      let ys = set xs (length xs - 1) x in
+      q ≡ drop (length (take (length ys - at) (drop at ys)) - 1) (take (length ys - at) (drop at ys)) ++ take (length (take (length ys - at) (drop at ys)) - 1) (take (length ys - at) (drop at ys)) →
+      put_mid at (length ys - at) ys q ≡ insert (take (length xs - 1) xs) at x
+  turned_in xs at x q within e =
+      let n = length xs - 1 in
+      let whole : set xs n x ≡ take n xs ++ x ∷ [] = sym (take_all (n + 1) (set xs n x) (omega (arith, length-set xs n x))) ∙ take_more_set xs n x (omega arith) in
+      last_in (take n xs) (set xs n x) at x q (omega (arith, length-take-le n xs (omega arith))) whole e

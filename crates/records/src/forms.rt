@@ -134,13 +134,12 @@ impl Record for Task {
     }
 
     fn write(&self, out: &mut [u8]) {
-        let n = self.name.to_be_bytes();
-        let p = self.period.to_be_bytes();
-        let f = self.phase.to_be_bytes();
-        let w = self.width.to_be_bytes();
+        let [n0, n1] = self.name.to_be_bytes();
+        let [p0, p1, p2, p3] = self.period.to_be_bytes();
+        let [f0, f1, f2, f3] = self.phase.to_be_bytes();
+        let [w0, w1, w2, w3] = self.width.to_be_bytes();
         out.copy_from_slice(&[
-            n[0], n[1], self.core, 0, p[0], p[1], p[2], p[3], f[0], f[1], f[2], f[3], w[0], w[1],
-            w[2], w[3],
+            n0, n1, self.core, 0, p0, p1, p2, p3, f0, f1, f2, f3, w0, w1, w2, w3,
         ]);
     }
 }
@@ -207,14 +206,13 @@ impl Record for Message {
     }
 
     fn write(&self, out: &mut [u8]) {
-        let n = self.name.to_be_bytes();
-        let s = self.source.to_be_bytes();
-        let t = self.destination.to_be_bytes();
-        let d = self.delay.to_be_bytes();
-        let w = self.width.to_be_bytes();
+        let [n0, n1] = self.name.to_be_bytes();
+        let [s0, s1] = self.source.to_be_bytes();
+        let [t0, t1] = self.destination.to_be_bytes();
+        let [d0, d1, d2, d3] = self.delay.to_be_bytes();
+        let [w0, w1, w2, w3] = self.width.to_be_bytes();
         out.copy_from_slice(&[
-            n[0], n[1], s[0], s[1], t[0], t[1], self.kind, 0, d[0], d[1], d[2], d[3], w[0], w[1],
-            w[2], w[3],
+            n0, n1, s0, s1, t0, t1, self.kind, 0, d0, d1, d2, d3, w0, w1, w2, w3,
         ]);
     }
 }

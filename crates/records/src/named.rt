@@ -1,4 +1,4 @@
-// Record kinds with a name, and the search for a name: a walk over the records, since they are few and need not ascend here.
+// Record kinds with a name, and the search for a name: a walk over the records, which need not ascend here.
 ghost use Rattle.std.specs.Prelude.{◌≡◌, ℕ};
 ghost use Rattle.records.specs.Named.{named, spot};
 

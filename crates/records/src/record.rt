@@ -66,7 +66,7 @@ pub struct Task {
 }
 
 impl Task {
-    // Fills the free places of a table and is never read. No `Default`, which could be taken for a task.
+    // Fills a table's free places and is never read, so it is no `Default`.
     pub const EMPTY: Task = Task {
         name: 0,
         core: 0,
@@ -88,7 +88,7 @@ pub struct Message {
 }
 
 impl Message {
-    // Fills the free places of a table and is never read. No `Default`, which could be taken for a message.
+    // Fills a table's free places and is never read, so it is no `Default`.
     pub const EMPTY: Message = Message {
         name: 0,
         source: 0,

@@ -7,7 +7,8 @@ mod held;
 
 use crate::named::{Named, find};
 
-// A table of N places, of which the first `count` hold records.
+// A table of N places, of which the first `count` hold records. No `ArrayVec`: it does not tell what stands behind the records
+// held, which `spare` and `rest` promise of an insert and a remove.
 #[derive(Drop)]
 pub struct Table<R, const N: usize> {
     places: [R; N],
@@ -26,32 +27,25 @@ fn place_of<R: Named>(held: &[R], name: u16) -> usize
     held.iter().take_while(|x| x.name() < name).count()
 }
 
-// x goes in at a place of the first `count` records; those from there on move up by one.
-fn put_at<R: Copy>(table: &mut [R], count: usize, at: usize, x: R)
-    requires room { count < length table.old }
-    requires within { at ≤ count }
-    ensures after { take (count + 1) table.new ≡ insert (take count table.old) at x }
-    ensures rest { drop (count + 1) table.new ≡ drop (count + 1) table.old }
+// x goes in at a place of a part whose last place is free; the records from there on move up by one.
+fn put_at<R: Copy>(part: &mut [R], at: usize, x: R)
+    requires { at < length part.old }
+    ensures { part.new ≡ insert (take (length part.old - 1) part.old) at x }
 {
-    table[count] = x;
-    let part = &mut table[at..count + 1];
-    part.rotate_right(1);
+    let last = part.len() - 1;
+    part[last] = x;
+    part[at..].rotate_right(1);
 }
 
-// The record at a place goes out of the first `count`; those above it move down by one.
-fn take_at<R: Copy>(table: &mut [R], count: usize, at: usize)
-    requires room { count ≤ length table.old }
-    requires within { at < count }
-    ensures after { take (count - 1) table.new ≡ remove (take count table.old) at }
-    ensures spare { take count table.new ≡ remove (take count table.old) at ++ take 1 (drop at (take count table.old)) }
-    ensures rest { drop count table.new ≡ drop count table.old }
+// The record at a place goes to the end of a part; those above it move down by one.
+fn take_at<R: Copy>(part: &mut [R], at: usize)
+    requires { at < length part.old }
+    ensures { part.new ≡ remove part.old at ++ take 1 (drop at part.old) }
 {
-    let part = &mut table[at..count];
-    part.rotate_left(1);
+    part[at..].rotate_left(1);
 }
 
 // Puts x into its place among the first `count` records, where a place is free behind them.
-#[tactic(auto, using(crate::proofs::Places::add_is, crate::proofs::Places::place_held))]
 pub fn insert<R: Named + Copy>(table: &mut [R], count: usize, x: R) -> Result<(), Full>
     ensures answer { is_ok result ≡ nat_lt count (length table.old) }
     ensures after { MatchResult result (λ _. take (count + 1) table.new ≡ add R.Named.label x (take count table.old)) (λ _. table.new ≡ table.old) }
@@ -61,7 +55,7 @@ pub fn insert<R: Named + Copy>(table: &mut [R], count: usize, x: R) -> Result<()
         return Err(Full);
     }
     let at = place_of(&table[..count], x.name());
-    put_at(table, count, at, x);
+    put_at(&mut table[..=count], at, x);
     Ok(())
 }
 
@@ -78,6 +72,6 @@ pub fn remove<R: Named + Copy>(table: &mut [R], count: usize, name: u16) -> Opti
     let held = &table[..count];
     let at = find(held, name)?;
     let gone = held[at];
-    take_at(table, count, at);
+    take_at(&mut table[..count], at);
     Some(gone)
 }

@@ -1,5 +1,5 @@
-// The words of the refusals, kept in constant memory and padded to eight bytes with spaces. The number of a refusal is a literal
-// beside its fault, in the crates above: this table of 27 words is the one place where all stand, and docs/REFUSALS.md names them.
+// The words of the refusals, kept in constant memory and padded to eight bytes with spaces; docs/REFUSALS.md names them. A number
+// is a literal where its fault is told, all but 1, 24 and 25 there alone, and no enum of 27: a line may be asked for with any byte.
 ghost use Rattle.std.specs.Prelude.{◌≡◌, ◌≤◌, length};
 ghost use Rattle.refusals.specs.Words.{word_of};
 
