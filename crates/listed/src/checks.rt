@@ -43,7 +43,8 @@ impl Links<'_> {
         (apart && !numbers.is_empty() && named).then_some(numbers)
     }
 
-    // Whether the numbers lead from one node to the other.
+    // Whether the numbers lead from one node to the other. A closure of `is_some_and` that calls this would need a proof and a
+    // measure of its own.
     fn follows(&self, from: u8, numbers: &[u8], to: u8) -> bool
         ensures { result ≡ chain_good self.now.section.bytes.now from numbers.now to }
     {
