@@ -1,4 +1,4 @@
-use Rattle.std.proofs.Common.{◌≡◌, ◌+◌, ◌-◌, length, take, drop, ap, ◌∙◌, arith}
+use Rattle.std.proofs.Common.{◌≡◌, ◌+◌, ◌-◌, length, take, drop, ap, ◌∙◌, arith, rules}
 use Rattle.std.specs.List.{insert}
 use Rattle.std.proofs.lemmas.List.{take_at, take-take, length-take-le}
 use Rattle.records.specs.Named.{place, add}
@@ -10,7 +10,7 @@ pub put_at-requires : goal.put_at-requires
 put_at-requires g c =
     let t = c.args.table.now in
     let n = c.args.count in
-    omega (arith, place_held g.R.Named.label c.name.result n t c.place_of-at.result (omega arith) c.place_of-at.ensures, length-take-le (n + 1) t (omega arith))
+    omega (arith, place_held g.R.Named.label _ n t c.place_of-at.result (omega arith) c.place_of-at.ensures, length-take-le (n + 1) t (omega arith))
 
 pub returns-clause-after : goal.returns-clause-after
 returns-clause-after g c =
@@ -22,6 +22,6 @@ returns-clause-after g c =
     let part = take (n + 1) t in
     let last : length part - 1 ≡ n = omega (arith, length-take-le (n + 1) t (omega arith)) in
     let front : take (length part - 1) part ≡ take n t = ap (λ k. take k part) last ∙ take-take n (n + 1) t (omega arith) in
-    let here : at ≡ place f (f x) (take n t) = c.place_of-at.ensures ∙ ap (λ m. place f m (take n t)) c.name.ensures in
+    let here : at ≡ place f (f x) (take n t) = search rules in
     let is : c.put_at.new.part ≡ add f x (take n t) = c.put_at.ensures ∙ ap (λ l. insert l at x) front ∙ ap (λ k. insert (take n t) k x) here ∙ add_is f x (take n t) in
     take_at c.put_at.new.part (drop (n + 1) t) (n + 1) (omega (arith, ap length is, length_add f x (take n t), length-take-le n t (omega arith))) ∙ is
