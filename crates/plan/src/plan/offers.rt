@@ -70,8 +70,7 @@ impl<'f, F: Fabric> Plan<'f, F> {
 
     // A task, by all of its checks in order.
     fn check_task(&self, t: &Task) -> Result<(), TaskFault>
-        ensures answer { result ≡ checked (task_refusal (setting F.Fabric.meaning self.now).network.nodes (jobs self.now) t.now) }
-        ensures room { is_ok result ≡ true → length (jobs self.now).tasks < 64 }
+        ensures { result ≡ checked (task_refusal (setting F.Fabric.meaning self.now).network.nodes (jobs self.now) t.now) }
     {
         self.task_checks(t)?;
         first_task_meeting(self.tasks.held(), t).map_or(
@@ -118,8 +117,7 @@ impl<'f, F: Fabric> Plan<'f, F> {
 
     // The checks of a message that come before lateness and meetings: its source and destination, where it passes them.
     pub(super) fn message_checks(&self, m: &Message) -> Result<Ends, MessageFault>
-        ensures room { is_ok result ≡ true → length (jobs self.now).messages < 128 }
-        ensures checked { MatchResult result (λ p. MessagePast (setting F.Fabric.meaning self.now) (jobs self.now) m.now p.source p.destination) (λ e. (rest : TaskOf → TaskOf → List ℕ → Option MessageFaultOf) → message_checks (setting F.Fabric.meaning self.now) (jobs self.now) m.now rest ≡ Some e) }
+        ensures { MatchResult result (λ p. MessagePast (setting F.Fabric.meaning self.now) (jobs self.now) m.now p.source p.destination) (λ e. (rest : TaskOf → TaskOf → List ℕ → Option MessageFaultOf) → message_checks (setting F.Fabric.meaning self.now) (jobs self.now) m.now rest ≡ Some e) }
     {
         let ends = self.message_ends(m)?;
         self.route_checks(&ends)?;
@@ -128,8 +126,7 @@ impl<'f, F: Fabric> Plan<'f, F> {
 
     // The checks of the route and the room.
     fn route_checks(&self, ends: &Ends) -> Result<(), MessageFault>
-        ensures room { is_ok result ≡ true → length (jobs self.now).messages < 128 }
-        ensures checked { MatchResult result (λ _. RoutePast (setting F.Fabric.meaning self.now) (jobs self.now) ends.now.source ends.now.destination) (λ e. (rest : List ℕ → Option MessageFaultOf) → routed_checks (jobs self.now) ((setting F.Fabric.meaning self.now).network.route ends.now.source.core ends.now.destination.core) rest ≡ Some e) }
+        ensures { MatchResult result (λ _. RoutePast (setting F.Fabric.meaning self.now) (jobs self.now) ends.now.source ends.now.destination) (λ e. (rest : List ℕ → Option MessageFaultOf) → routed_checks (jobs self.now) ((setting F.Fabric.meaning self.now).network.route ends.now.source.core ends.now.destination.core) rest ≡ Some e) }
     {
         let from = ends.source.core as usize;
         let to = ends.destination.core as usize;
@@ -157,8 +154,7 @@ impl<'f, F: Fabric> Plan<'f, F> {
 
     // A message between two held tasks, by its checks past the limits.
     fn check_way(&self, ends: &Ends, m: &Message) -> Result<(), MessageFault>
-        ensures room { is_ok result ≡ true → length (jobs self.now).messages < 128 }
-        ensures answer { result ≡ checked (routed_refusal (setting F.Fabric.meaning self.now) (jobs self.now) m.now ends.now.source ends.now.destination ((setting F.Fabric.meaning self.now).network.route ends.now.source.core ends.now.destination.core)) }
+        ensures { result ≡ checked (routed_refusal (setting F.Fabric.meaning self.now) (jobs self.now) m.now ends.now.source ends.now.destination ((setting F.Fabric.meaning self.now).network.route ends.now.source.core ends.now.destination.core)) }
     {
         self.route_checks(ends)?;
         self.check_packets(ends, m)
@@ -166,8 +162,7 @@ impl<'f, F: Fabric> Plan<'f, F> {
 
     // A message, by all of its checks in order.
     fn check_message(&self, m: &Message) -> Result<(), MessageFault>
-        ensures room { is_ok result ≡ true → length (jobs self.now).messages < 128 }
-        ensures answer { result ≡ checked (message_refusal (setting F.Fabric.meaning self.now) (jobs self.now) m.now) }
+        ensures { result ≡ checked (message_refusal (setting F.Fabric.meaning self.now) (jobs self.now) m.now) }
     {
         let ends = self.message_ends(m)?;
         self.check_way(&ends, m)

@@ -14,8 +14,7 @@ use jobs::placing::first_phase;
 impl<'f, F: Fabric> Plan<'f, F> {
     // The smallest phase that an offer of the task would be taken with.
     fn phase_for(&self, t: &OpenTask) -> Result<u32, PlacingFault<TaskFault>>
-        ensures answer { result ≡ (place_task (setting F.Fabric.meaning self.now) (jobs self.now) t.now).0 }
-        ensures room { is_ok result ≡ true → length (jobs self.now).tasks < 64 }
+        ensures { result ≡ (place_task (setting F.Fabric.meaning self.now) (jobs self.now) t.now).0 }
     {
         self.task_checks(&t.at(0)).map_err(PlacingFault::Offer)?;
         first_phase(self.tasks.held(), t).ok_or(PlacingFault::NoFit)
@@ -36,8 +35,7 @@ impl<'f, F: Fabric> Plan<'f, F> {
 
     // The smallest delay that an offer of the message would be taken with.
     fn delay_for(&self, m: &OpenMessage) -> Result<u32, PlacingFault<MessageFault>>
-        ensures answer { result ≡ (place_message (setting F.Fabric.meaning self.now) (jobs self.now) m.now).0 }
-        ensures room { is_ok result ≡ true → length (jobs self.now).messages < 128 }
+        ensures { result ≡ (place_message (setting F.Fabric.meaning self.now) (jobs self.now) m.now).0 }
     {
         let ends = self.message_checks(&m.at(0)).map_err(PlacingFault::Offer)?;
         self.board()

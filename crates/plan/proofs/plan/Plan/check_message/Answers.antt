@@ -5,8 +5,8 @@ use Rattle.jobs.proofs.Checked.{message_checked}
 use Rattle.plan.specs.Held.{jobs, setting}
 use Rattle.plan.proofs.plan.Plan.check_message.Goals as goal
 
-pub returns-in_err-ends-clause-answer : goal.returns-in_err-ends-clause-answer
-returns-in_err-ends-clause-answer g c =
+pub returns-in_err-ends : goal.returns-in_err-ends
+returns-in_err-ends g c =
     let p = c.args.self.now in
     let m = c.args.m.now in
     let at = setting g.F.Fabric.meaning p in

@@ -10,8 +10,8 @@ use Rattle.plan.specs.Held.{jobs, setting}
 use Rattle.plan.proofs.Placing.{delays_are, message_answers, message_goes}
 use Rattle.plan.proofs.plan.Plan.delay_for.Goals as goal
 
-pub returns-clause-answer : goal.returns-clause-answer
-returns-clause-answer g c =
+pub returns : goal.returns
+returns g c =
     let p = c.args.self.now in
     let m = c.args.m.now in
     let s = setting g.F.Fabric.meaning p in

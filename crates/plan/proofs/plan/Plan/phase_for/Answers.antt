@@ -9,8 +9,8 @@ use Rattle.plan.specs.Held.{jobs, setting}
 use Rattle.plan.proofs.Placing.{phases, task_answers, task_goes}
 use Rattle.plan.proofs.plan.Plan.phase_for.Goals as goal
 
-pub returns-clause-answer : goal.returns-clause-answer
-returns-clause-answer g c =
+pub returns : goal.returns
+returns g c =
     let p = c.args.self.now in
     let t = c.args.t.now in
     let s = setting g.F.Fabric.meaning p in

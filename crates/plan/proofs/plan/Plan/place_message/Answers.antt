@@ -11,4 +11,4 @@ returns-in_err-delay-clause-after g c =
     let p = c.args.self.now in
     let m = c.args.m in
     let s = setting g.F.Fabric.meaning p in
-    message_stays (jobs p) m (message_checks s (jobs p) (message_at m 0) (λ s d r. None)) (first_delay s (jobs p) m) c.in_err-delay.field-0.0 c.in_err-delay.ensures.answer
+    message_stays (jobs p) m (message_checks s (jobs p) (message_at m 0) (λ s d r. None)) (first_delay s (jobs p) m) c.in_err-delay.field-0.0 c.in_err-delay.ensures
