@@ -34,11 +34,11 @@ pub(crate) fn layout(part: &[u8]) -> Result<JobPart<'_>, LayoutFault>
     ensures { MatchResult result (λ p. LaidOut part.now p.tasks.bytes.now p.messages.bytes.now) (λ e. job_part part.now ≡ Err e) }
 {
     let job = sections(part)?;
-    if let Some(place) = job.tasks.unread() {
-        return Err(LayoutFault::NoTask(place));
-    }
-    if let Some(place) = job.messages.unread() {
-        return Err(LayoutFault::NoMessage(place));
-    }
+    job.tasks
+        .unread()
+        .map_or(Ok(()), |place| Err(LayoutFault::NoTask(place)))?;
+    job.messages
+        .unread()
+        .map_or(Ok(()), |place| Err(LayoutFault::NoMessage(place)))?;
     Ok(job)
 }

@@ -144,9 +144,7 @@ impl<'f, F: Fabric> Plan<'f, F> {
         ensures { result ≡ checked (on_way (setting F.Fabric.meaning self.now) (jobs self.now) m.now ends.now.source ends.now.destination ((setting F.Fabric.meaning self.now).network.route ends.now.source.core ends.now.destination.core)) }
     {
         let way = Way::between(self.fabric, ends, m).ok_or(MessageFault::NoRoute)?;
-        if let Some(slack) = late_by(&way, &ends.destination, m) {
-            return Err(MessageFault::Late(slack));
-        }
+        late_by(&way, &ends.destination, m).map_or(Ok(()), |slack| Err(MessageFault::Late(slack)))?;
         self.board()
             .first_packet_meeting(self.messages.held(), &way)
             .map_or(Ok(()), |meeting| Err(MessageFault::Meets(meeting)))
