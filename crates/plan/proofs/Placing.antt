@@ -82,17 +82,11 @@ module _ (g : Setting) (js : Jobs) (m : OpenMessage) (s d : Task) (p : MessagePa
       ∙ ap (message_placed js m None) (sym e)
 
 -- a refused placing leaves what was held
-pub task_stays : (js : Jobs) (t : OpenTask) (c : Option TaskFault) (o : Option ℕ) (e : PlacingFault TaskFault)
-    → Err e ≡ (task_placed js t c o).0 → js ≡ (task_placed js t c o).1
-task_stays js t (Some x) o e is = refl
-task_stays js t None None e is = refl
-task_stays js t None (Some v) e is = let z : ◌≡◌ {A = ℕ} 0 1 = cc in absurd (omega arith)
-
 pub message_stays : (js : Jobs) (m : OpenMessage) (c : Option MessageFault) (o : Option ℕ) (e : PlacingFault MessageFault)
     → Err e ≡ (message_placed js m c o).0 → js ≡ (message_placed js m c o).1
 message_stays js m (Some x) o e is = refl
 message_stays js m None None e is = refl
-message_stays js m None (Some v) e is = let z : ◌≡◌ {A = ℕ} 0 1 = cc in absurd (omega arith)
+message_stays js m None (Some v) e is = cc
 
 -- past the checks a placing answers the value, or that none fits
 pub task_answers : (js : Jobs) (t : OpenTask) (o : Option ℕ) → (task_placed js t None o).0 ≡ ok_or o placing.NoFit

@@ -9,10 +9,10 @@ use Rattle.plan.specs.Loading.{in_turn, on_taken}
 
 taken_none : {E : Type 0} (o : Option E) (b a : Jobs) (u : Unit {0}) → Ok u ≡ (offered o b a).0 → (o ≡ None) × ((offered o b a).1 ≡ a)
 taken_none None b a u e = (refl, refl)
-taken_none (Some x) b a u e = let z : ◌≡◌ {A = ℕ} 0 1 = cc in absurd (omega arith)
+taken_none (Some x) b a u e = absurd cc
 
 refused_some : {E : Type 0} (o : Option E) (b a : Jobs) (x : E) → Err x ≡ (offered o b a).0 → (o ≡ Some x) × ((offered o b a).1 ≡ b)
-refused_some None b a x e = let z : ◌≡◌ {A = ℕ} 0 1 = cc in absurd (omega arith)
+refused_some None b a x e = absurd cc
 refused_some (Some y) b a x e = let s : y ≡ x = cc in (ap Some s, refl)
 
 module _ {X E : Type 0} (refusal : Jobs → X → Option E) (held : Jobs → X → Jobs) where
@@ -63,4 +63,4 @@ module _ {X : Type 0} (parsed : List ℕ → Option X) (size : ℕ) (bytes : Lis
       go [] e = omega (arith, ap length e, within)
       go (d ∷ ys) e =
           let none : None ≡ Some (get_or xs i d) = is ∙ section_each parsed size bytes xs read i d within in
-          let z : ◌≡◌ {A = ℕ} 0 1 = cc in omega arith
+          cc

@@ -64,12 +64,10 @@ impl<'f, F: Fabric> Plan<'f, F> {
         ensures after { (xs : List R) → section_records R.Record.parsed R.Record.SIZE section.now.bytes.now ≡ Ok xs → jobs self.new ≡ (in_turn (R.Job.refusal (setting F.Fabric.meaning self.old)) R.Job.joined (jobs self.old) 0 xs).1 }
         ensures fabric { self.new.fabric ≡ self.old.fabric }
     {
-        // by places, since a refused offer names its place
+        // a loop by places, since a refusal names its place: after `try_for_each` nothing is known of a plan that its closure changed (tried)
         for i in 0..section.count() {
             if let Some(job) = section.get(i) {
-                if let Err(fault) = job.offer_to(self) {
-                    return Err((i, fault));
-                }
+                job.offer_to(self).map_err(|fault| (i, fault))?;
             }
         }
         Ok(())
