@@ -1,4 +1,3 @@
 pub mod Turns
 pub mod Checks
 pub mod Placing
-pub mod Drops

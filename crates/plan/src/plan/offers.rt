@@ -151,6 +151,7 @@ impl<'f, F: Fabric> Plan<'f, F> {
     }
 
     // A message between two held tasks, by its checks past the limits.
+    #[tactic(auto, using(jobs::proofs::Checked::routed_checked))]
     fn check_way(&self, ends: &Ends, m: &Message) -> Result<(), MessageFault>
         ensures { result ≡ checked (routed_refusal (setting F.Fabric.meaning self.now) (jobs self.now) m.now ends.now.source ends.now.destination ((setting F.Fabric.meaning self.now).network.route ends.now.source.core ends.now.destination.core)) }
     {

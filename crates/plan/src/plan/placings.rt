@@ -44,6 +44,7 @@ impl<'f, F: Fabric> Plan<'f, F> {
     }
 
     // Holds the message with the smallest delay that an offer would be taken with, and answers that delay.
+    #[tactic(auto, using(crate::proofs::Placing::message_stays))]
     pub fn place_message(&mut self, m: OpenMessage) -> Result<u32, PlacingFault<MessageFault>>
         ensures answer { result ≡ (place_message (setting F.Fabric.meaning self.old) (jobs self.old) m).0 }
         ensures told { refusal_of (placing_told message_told) result ≡ refusal_of (placing_told message_told) (place_message (setting F.Fabric.meaning self.old) (jobs self.old) m).0 }
