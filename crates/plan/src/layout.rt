@@ -2,17 +2,31 @@
 ghost use Rattle.plan.specs.Loading.{LaidOut, both_read, job_part};
 ghost use Rattle.records.specs.Forms.{message_of, task_of};
 ghost use Rattle.records.specs.Sections.{section_records};
-ghost use Rattle.std.specs.Prelude.{◌≡◌, Err, MatchResult};
+ghost use Rattle.std.specs.Prelude.{◌≡◌, ◌/◌, Err, MatchResult, length};
 
 use crate::fault::LayoutFault;
 use records::record::{Message, Task};
 use records::section::{Section, cut};
+use refusals::refusal::Counts;
 
 // The two sections of a job part.
 #[derive(Drop)]
 pub(crate) struct JobPart<'a> {
     pub(crate) tasks: Section<'a, Task>,
     pub(crate) messages: Section<'a, Message>,
+}
+
+impl<'a> JobPart<'a> {
+    // How many tasks and messages there are.
+    pub(crate) fn counts(&self) -> Counts
+        ensures tasks { result.tasks ≡ length self.now.tasks.bytes.now / 16 }
+        ensures messages { result.messages ≡ length self.now.messages.bytes.now / 16 }
+    {
+        Counts {
+            tasks: self.tasks.count(),
+            messages: self.messages.count(),
+        }
+    }
 }
 
 // The two sections of a job part, whole and with nothing after them.

@@ -84,7 +84,6 @@ impl<'f, F: Fabric> Plan<'f, F> {
         let job = layout(part)?;
         self.load_jobs(&job.tasks)?;
         self.load_jobs(&job.messages)?;
-        let (tasks, messages) = (job.tasks.count(), job.messages.count());
-        Ok(Counts { tasks, messages })
+        Ok(job.counts())
     }
 }

@@ -29,10 +29,10 @@ returns g c =
     ap (loaded s js) laid.whole
     ∙ ap (λ r. past_tasks s ts ms r (load_tasks s js 0 ts).1) (sym taken)
     ∙ ap (λ j. (past_messages (length ts) (length ms) (load_messages s j 0 ms).0, (load_messages s j 0 ms).1)) (sym held) in
-    let tasks : c.count-tasks.result ≡ length ts = c.count-tasks.ensures ∙ sym (section_length task_of 16 c.in_ok-job.job.tasks.bytes.now ts laid.task_records) in
-    let messages : c.count-messages.result ≡ length ms = c.count-messages.ensures ∙ sym (section_length message_of 16 c.in_ok-job.job.messages.bytes.now ms laid.message_records) in
-    let answer : past_messages c.count-tasks.result c.count-messages.result (Ok tt) ≡ (load s js c.args.part.now).0 =
-    ap (λ n. past_messages n c.count-messages.result (Ok tt)) tasks ∙ ap (λ n. past_messages (length ts) n (Ok tt)) messages ∙ ap (past_messages (length ts) (length ms)) sent ∙ sym (ap (λ r. r.0) whole) in
+    let tasks : c.counts.result.tasks ≡ length ts = c.counts.ensures.tasks ∙ sym (section_length task_of 16 c.in_ok-job.job.tasks.bytes.now ts laid.task_records) in
+    let messages : c.counts.result.messages ≡ length ms = c.counts.ensures.messages ∙ sym (section_length message_of 16 c.in_ok-job.job.messages.bytes.now ms laid.message_records) in
+    let answer : Ok c.counts.result ≡ (load s js c.args.part.now).0 =
+    ap (λ n. past_messages n c.counts.result.messages (Ok tt)) tasks ∙ ap (λ n. past_messages (length ts) n (Ok tt)) messages ∙ ap (past_messages (length ts) (length ms)) sent ∙ sym (ap (λ r. r.0) whole) in
     record {
       answer = answer;
       told = ap (refusal_of load_told) answer;
