@@ -49,7 +49,8 @@ fn holder<B, J: Job<B>>(board: &B, held: &[J], place: Place, instant: u64) -> Op
         .find_map(|job| held_run(board, job, place, instant))
 }
 
-// The held task that has a core at an instant, by its name, and its run there.
+// The held task that has a core at an instant, by its name, and its run there. Over the held tasks alone: a board would ask
+// for a fabric.
 pub fn core_holder(held: &[Task], number: u16, instant: u64) -> Option<(u16, u64)>
     ensures { result ≡ holder_among (core number) instant (map held_task held.now) }
 {

@@ -66,7 +66,7 @@ fn wait_past<B, J: Job<B>>(board: &B, held: &[J], own: &[Stay], meeting: &Meetin
     stay_wait(&one, &other)
 }
 
-// The smallest phase at which the task meets none of those held.
+// The smallest phase at which the task meets none of those held. Over the held tasks alone: a board would ask for a fabric.
 pub fn first_phase(held: &[Task], t: &OpenTask) -> Option<u32>
     ensures { result ≡ first_from (λ v. clear (first_met (task_takes (task_at t.now v)) (map held_task held.now))) (t.now.period + 1 - t.now.width) 0 }
 {

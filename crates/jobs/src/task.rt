@@ -41,7 +41,7 @@ pub(crate) fn stay_of(t: &Task) -> Stay
     }
 }
 
-// The first meeting of the task with those held.
+// The first meeting of the task with those held. Over the held tasks alone: a board would ask for a fabric.
 pub fn first_task_meeting(held: &[Task], t: &Task) -> Option<Meeting>
     ensures { result ≡ first_met (task_takes t.now) (map held_task held.now) }
 {

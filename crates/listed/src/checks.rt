@@ -96,7 +96,7 @@ fn below(numbers: &[u8], limit: usize) -> bool
     numbers.iter().all(|n| (*n as usize) < limit)
 }
 
-// Whether no number stands twice.
+// Whether no number stands twice. A recursion for the same reason as `follows`.
 fn distinct(numbers: &[u8]) -> bool
     ensures { result ≡ once_good numbers.now }
 {

@@ -45,7 +45,8 @@ fn take_at<R: Copy>(part: &mut [R], at: usize)
     part[at..].rotate_left(1);
 }
 
-// Puts x into its place among the first `count` records, where a place is free behind them.
+// Puts x into its place among the first `count` records, where a place is free behind them. Over any slice and count, as it
+// has promised; the method of `Table` is thin over it.
 pub fn insert<R: Named + Copy>(table: &mut [R], count: usize, x: R) -> Result<(), Full>
     ensures answer { is_ok result ≡ nat_lt count (length table.old) }
     ensures after { MatchResult result (λ _. take (count + 1) table.new ≡ add R.Named.label x (take count table.old)) (λ _. table.new ≡ table.old) }
@@ -59,7 +60,8 @@ pub fn insert<R: Named + Copy>(table: &mut [R], count: usize, x: R) -> Result<()
     Ok(())
 }
 
-// Takes the first record of a name out of the first `count`, where one has it; it then stands behind those still held.
+// Takes the first record of a name out of the first `count`, where one has it; it then stands behind those still held. Over any
+// slice and count too.
 pub fn remove<R: Named + Copy>(table: &mut [R], count: usize, name: u16) -> Option<R>
     ensures answer { result ≡ (if nat_le count (length table.old) then named R.Named.label name (take count table.old) else None) }
     ensures after { MatchOption result (table.new ≡ table.old) (λ _. take (count - 1) table.new ≡ without R.Named.label name (take count table.old)) }

@@ -7,7 +7,7 @@ use jobs::open::{OpenMessage, OpenTask};
 use records::record::{Message, Task};
 use replay::calls::Call;
 
-// The size and hop delay of a mesh.
+// The size and hop delay of a mesh: three bytes, as in `Line::Mesh`.
 pub(crate) fn mesh(text: &[u8]) -> Option<(u8, u8, u8)>
     ensures { result ≡ mesh text.now }
 {

@@ -49,7 +49,7 @@ fn read_call(text: &[u8]) -> Option<Call<'static>>
     None
 }
 
-// A line that is not blank.
+// A line that is not blank. No table of fronts here either, for the reason above.
 fn read_text(heap: Global, text: &[u8]) -> Result<Line, AllocError>
     ensures { IfOk result (λ l. said l ≡ text_line text.now) }
 {

@@ -1,6 +1,6 @@
 // Showing a reply as text.
 ghost use Rattle.script.specs.Replies.{ToldAsVerdicts, answer_text, reply_text};
-ghost use Rattle.std.specs.Prelude.{◌≡◌, ◌++◌, codes, Some, IfOk, OnOk};
+ghost use Rattle.std.specs.Prelude.{◌≡◌, ◌++◌, codes, Some, IfOk, MatchResult};
 
 use crate::reply::Reply;
 use refusals::refusal::{Refusal, Told};
@@ -61,20 +61,20 @@ pub fn show(heap: Global, reply: &Reply) -> Result<Vec<u8>, AllocError>
     Ok(format!(in heap; "{reply}")?.into_bytes())
 }
 
-// Adds a line of text with its reply.
+// Adds a line of text with its reply, or nothing where there is no memory for it.
 pub fn tell_line(
     heap: Global,
     out: &mut Vec<u8>,
     text: &[u8],
     reply: &Reply,
 ) -> Result<(), AllocError>
-    ensures { OnOk result (out.new.items ≡ out.old.items ++ (text.now ++ (codes ": " ++ (reply_text reply.now ++ codes "\n")))) }
+    ensures { MatchResult result (λ _. out.new.items ≡ out.old.items ++ (text.now ++ (codes ": " ++ (reply_text reply.now ++ codes "\n")))) (λ _. out.new.items ≡ out.old.items) }
 {
-    out.extend_from_slice(text)?;
-    out.extend_from_slice(b": ")?;
-    out.extend_from_slice(&show(heap, reply)?)?;
-    out.push(b'\n')?;
-    Ok(())
+    let mut line = text.to_vec(heap)?;
+    line.extend_from_slice(b": ")?;
+    line.extend_from_slice(&show(heap, reply)?)?;
+    line.push(b'\n')?;
+    out.extend_from_slice(&line)
 }
 
 // A refused load or listed fabric is shown as a verdict line tells it.

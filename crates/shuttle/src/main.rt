@@ -13,7 +13,7 @@ use std::io::{BufRead, BufReader, Write};
 
 mod line;
 
-// The calls with their answers; all other lines are passed over.
+// The calls with their answers; all other lines are passed over. Texts are printed as they came, which a `Line` does not keep.
 fn transcript(heap: Global, texts: &[&[u8]]) -> anyhow::Result<Vec<u8>> {
     let lines = read_lines(heap, texts)?;
     let mut answers = run_lines(heap, &Shuttle, &lines)?.into_iter();

@@ -1,7 +1,9 @@
 // Questions about what is held.
 ghost use Rattle.jobs.specs.Holding.{CoreHolder, LinkHolder, core_holder, link_holder};
+ghost use Rattle.jobs.specs.Numbers.{drop_told, place_told};
 ghost use Rattle.jobs.specs.Slacks.{HeldSlack, slack};
 ghost use Rattle.plan.specs.Held.{jobs, setting};
+ghost use Rattle.refusals.specs.Told.{refusal_of};
 ghost use Rattle.std.specs.Prelude.{◌≡◌, IfOk};
 
 use super::Plan;
@@ -14,6 +16,7 @@ impl<'f, F: Fabric> Plan<'f, F> {
     // The least slack of the held message of this name.
     pub fn slack(&self, name: u16) -> Result<i64, DropFault>
         ensures answer { result ≡ slack (setting F.Fabric.meaning self.now) (jobs self.now) name }
+        ensures told { refusal_of drop_told result ≡ refusal_of drop_told (slack (setting F.Fabric.meaning self.now) (jobs self.now) name) }
         ensures least { IfOk result (HeldSlack (setting F.Fabric.meaning self.now) (jobs self.now) name) }
     {
         let m = pick(self.messages.held(), name).ok_or(DropFault::Unknown)?;
@@ -23,6 +26,7 @@ impl<'f, F: Fabric> Plan<'f, F> {
     // Who holds a core at an instant: the task's name and its run, or none.
     pub fn core_holder(&self, core: u16, instant: u64) -> Result<Option<(u16, u64)>, PlaceFault>
         ensures answer { result ≡ core_holder (setting F.Fabric.meaning self.now) (jobs self.now) core instant }
+        ensures told { refusal_of place_told result ≡ refusal_of place_told (core_holder (setting F.Fabric.meaning self.now) (jobs self.now) core instant) }
         ensures holder { IfOk result (CoreHolder (jobs self.now) core instant) }
     {
         if core as usize >= self.fabric.nodes() {
@@ -34,6 +38,7 @@ impl<'f, F: Fabric> Plan<'f, F> {
     // Who holds a link at an instant: the message's name and its packet, or none.
     pub fn link_holder(&self, link: u16, instant: u64) -> Result<Option<(u16, u64)>, PlaceFault>
         ensures answer { result ≡ link_holder (setting F.Fabric.meaning self.now) (jobs self.now) link instant }
+        ensures told { refusal_of place_told result ≡ refusal_of place_told (link_holder (setting F.Fabric.meaning self.now) (jobs self.now) link instant) }
         ensures holder { IfOk result (LinkHolder (setting F.Fabric.meaning self.now) (jobs self.now) link instant) }
     {
         if link as usize >= self.fabric.link_numbers() {
