@@ -132,7 +132,7 @@ message_answer g most few laws js m clean =
 
 -- a placing is answered by an earlier fault exactly where one of their conditions holds
 pub task_place_early : (g : Setting) (js : Jobs) (t : OpenTask) → Clean g js
-    → ((e : TaskFault) × ((place_task g js t).0 ≡ Err (placing.Offer e))) ↔ (TaskPassed g js (task_at t 0) → ⊥)
+    → ((e : TaskFault) × ((place_task g js t).0 ≡ Err (placing.Offer e)) × EarlyTask e) ↔ (TaskPassed g js (task_at t 0) → ⊥)
 task_place_early g js t clean = (
   λ x p. refused x.0 (first_phase g js t) x.1 (task_passed g.network.nodes js (task_at t 0) (past g js (task_at t 0) clean p) None),
   λ broken. go (task_checks g.network.nodes js (task_at t 0) None) refl broken,
@@ -147,12 +147,12 @@ task_place_early g js t clean = (
     refused e o is none = none_first e o (ap (λ c. (task_placed js t c o).0) (sym none) ∙ is)
 
     go : (c : Option TaskFault) → task_checks g.network.nodes js (task_at t 0) None ≡ c → (TaskPassed g js (task_at t 0) → ⊥)
-        → (e : TaskFault) × ((place_task g js t).0 ≡ Err (placing.Offer e))
+        → (e : TaskFault) × ((place_task g js t).0 ≡ Err (placing.Offer e)) × EarlyTask e
     go None is broken = absurd (broken (task_passes g js (task_at t 0) None is).0)
-    go (Some e) is broken = (e, ap (λ c. (task_placed js t c (first_phase g js t)).0) is)
+    go (Some e) is broken = (e, ap (λ c. (task_placed js t c (first_phase g js t)).0) is, (task_stops g.network.nodes js (task_at t 0) e is).0)
 
 pub message_place_early : (g : Setting) (most : ℕ) → most ≤ 64 → Lawful most g.network → (js : Jobs) (m : OpenMessage) → Clean g js
-    → ((e : MessageFault) × ((place_message g js m).0 ≡ Err (placing.Offer e))) ↔ ((s d : Task) (r : List ℕ) → MessagePassed g js (message_at m 0) s d r → ⊥)
+    → ((e : MessageFault) × ((place_message g js m).0 ≡ Err (placing.Offer e)) × EarlyMessage e) ↔ ((s d : Task) (r : List ℕ) → MessagePassed g js (message_at m 0) s d r → ⊥)
 message_place_early g most few laws js m clean = (
   λ x s d r p. refused x.0 (first_delay g js m) x.1 (passed g js (message_at m 0) s d (message_past g most few laws js (message_at m 0) s d r clean p) (λ s d r. None)),
   λ broken. go (message_checks g js (message_at m 0) (λ s d r. None)) refl broken,
@@ -167,6 +167,6 @@ message_place_early g most few laws js m clean = (
     refused e o is none = none_first e o (ap (λ c. (message_placed js m c o).0) (sym none) ∙ is)
 
     go : (c : Option MessageFault) → message_checks g js (message_at m 0) (λ s d r. None) ≡ c → ((s d : Task) (r : List ℕ) → MessagePassed g js (message_at m 0) s d r → ⊥)
-        → (e : MessageFault) × ((place_message g js m).0 ≡ Err (placing.Offer e))
+        → (e : MessageFault) × ((place_message g js m).0 ≡ Err (placing.Offer e)) × EarlyMessage e
     go None is broken = let p = message_passes g js (message_at m 0) (λ s d r. None) is in absurd (broken p.source p.destination p.route p.passed)
-    go (Some e) is broken = (e, ap (λ c. (message_placed js m c (first_delay g js m)).0) is)
+    go (Some e) is broken = (e, ap (λ c. (message_placed js m c (first_delay g js m)).0) is, (message_stops g js (message_at m 0) e is).0)

@@ -29,7 +29,7 @@ use Rattle.plan.specs.declared.fault.LoadFault.TheVariants as load_fault
 use Rattle.promise.specs.Canonical.{Canonical, SameMembers, ShortNames}
 use Rattle.promise.specs.Clean.{Clean, In}
 use Rattle.promise.specs.Droppings.{MessageDropped, TaskDropped}
-use Rattle.promise.specs.Offers.{MessageAnswer, MessageFits, MessagePassed, Smallest, TaskAnswer, TaskFits, TaskPassed}
+use Rattle.promise.specs.Offers.{EarlyMessage, EarlyTask, MessageAnswer, MessageFits, MessagePassed, Smallest, TaskAnswer, TaskFits, TaskPassed}
 use Rattle.promise.specs.Questions.{CoreTold, LinkTold, SlackTold}
 use Rattle.replay.specs.declared.calls.Answer.{Answer}
 use Rattle.replay.specs.declared.calls.Answer.TheVariants as answer
@@ -97,11 +97,11 @@ Holds Is count number (Err e) = count ≤ number
 
 -- a placing is answered by one of the earlier faults exactly where one of their conditions holds, and past them by the smallest value
 pub record TaskPlacing (g : Setting) (js : Jobs) (t : OpenTask) (r : Result ℕ (PlacingFault TaskFault)) : Type 0 where
-  pub early : ((e : TaskFault) × (r ≡ Err (placing.Offer e))) ↔ (TaskPassed g js (task_at t 0) → ⊥)
+  pub early : ((e : TaskFault) × (r ≡ Err (placing.Offer e)) × EarlyTask e) ↔ (TaskPassed g js (task_at t 0) → ⊥)
   pub past : TaskPassed g js (task_at t 0) → Smallest (TaskFits g js t) placing.NoFit r
 
 pub record MessagePlacing (g : Setting) (js : Jobs) (m : OpenMessage) (r : Result ℕ (PlacingFault MessageFault)) : Type 0 where
-  pub early : ((e : MessageFault) × (r ≡ Err (placing.Offer e))) ↔ ((s d : Task) (route : List ℕ) → MessagePassed g js (message_at m 0) s d route → ⊥)
+  pub early : ((e : MessageFault) × (r ≡ Err (placing.Offer e)) × EarlyMessage e) ↔ ((s d : Task) (route : List ℕ) → MessagePassed g js (message_at m 0) s d route → ⊥)
   pub past : (s d : Task) (route : List ℕ) → MessagePassed g js (message_at m 0) s d route → Smallest (MessageFits g js m s) placing.NoFit r
 
 -- what is promised of the answer r to a call, with the jobs held before it
