@@ -134,7 +134,7 @@ module _ (g : Setting) (most : ℕ) (few : most ≤ 64) (laws : Lawful most g.ne
   calls js c (b ∷ rest) (suc i) a e = calls (ask g js b).1 (ask_keeps js b c) rest i a e
 
   -- the held jobs stay in ascending names and within their numbers
-  ask_canonical : (js : Jobs) (a : Ask) → Canonical js → Canonical (ask g js a).1
+  pub ask_canonical : (js : Jobs) (a : Ask) → Canonical js → Canonical (ask g js a).1
   ask_canonical js (offering_task t) c = task_offer_canonical g js t c
   ask_canonical js (offering_message m) c = message_offer_canonical g js m c
   ask_canonical js (placing_task t) c = task_place_canonical g js t c

@@ -2,18 +2,25 @@
 --   Ask              a call by its arguments
 --   ask              what one call answers, and what is held after it
 --   answers, held    the same of a list of calls
-use Rattle.std.specs.Prelude.{ℕ, Bool, true, false, List, [], ◌∷◌, Ok, Err, Result}
+--   answer_told      the number and values of what an answer refuses
+use Rattle.std.specs.Prelude.{ℕ, Bool, true, false, List, [], ◌∷◌, ◌⊎◌, Ok, Err, Option, Result}
+use mathlib.Core.Logic.{inl, inr}
 use Rattle.records.specs.declared.record.Task.{Task}
 use Rattle.records.specs.declared.record.Message.{Message}
+use Rattle.refusals.specs.Told.{refusal_of}
+use Rattle.refusals.specs.declared.refusal.Refusal.{Refusal}
+use Rattle.refusals.specs.declared.refusal.Told.{Told}
 use Rattle.jobs.specs.declared.open.OpenTask.{OpenTask}
 use Rattle.jobs.specs.declared.open.OpenMessage.{OpenMessage}
 use Rattle.jobs.specs.Jobs.{Setting, Jobs}
+use Rattle.jobs.specs.Numbers.{drop_told, message_told, place_told, placing_told, task_told}
 use Rattle.jobs.specs.Rules.{offer_task, offer_message}
 use Rattle.jobs.specs.Placings.{place_task, place_message}
 use Rattle.jobs.specs.Drops.{drop_task, drop_message}
 use Rattle.jobs.specs.Slacks.{slack}
 use Rattle.jobs.specs.Holding.{core_holder, link_holder}
 use Rattle.plan.specs.Loading.{load}
+use Rattle.plan.specs.Told.{load_told}
 use Rattle.replay.specs.declared.calls.Call.{Call}
 use Rattle.replay.specs.declared.calls.Call.TheVariants as call
 use Rattle.replay.specs.declared.calls.Answer.{Answer}
@@ -81,3 +88,14 @@ stays (answer.Dropped r) = refused r
 stays (answer.Loaded r) = false
 stays (answer.Slack r) = true
 stays (answer.Holder r) = true
+
+-- what an answer refuses, by the number and values of each fault, and of a load with section and record; none where nothing is refused
+abbrev pub answer_told : Answer → Option (Refusal ⊎ Told)
+answer_told (answer.TaskOffered r) = refusal_of (λ e. inl (task_told e)) r
+answer_told (answer.MessageOffered r) = refusal_of (λ e. inl (message_told e)) r
+answer_told (answer.TaskPlaced r) = refusal_of (λ e. inl (placing_told task_told e)) r
+answer_told (answer.MessagePlaced r) = refusal_of (λ e. inl (placing_told message_told e)) r
+answer_told (answer.Dropped r) = refusal_of (λ e. inl (drop_told e)) r
+answer_told (answer.Loaded r) = refusal_of (λ e. inr (load_told e)) r
+answer_told (answer.Slack r) = refusal_of (λ e. inl (drop_told e)) r
+answer_told (answer.Holder r) = refusal_of (λ e. inl (place_told e)) r

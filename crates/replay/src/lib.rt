@@ -3,9 +3,10 @@
 
 ghost use Rattle.jobs.specs.Jobs.{nothing, over};
 ghost use Rattle.plan.specs.Held.{jobs, setting};
+ghost use Rattle.promise.specs.Canonical.{Canonical};
 ghost use Rattle.promise.specs.Clean.{Clean};
-ghost use Rattle.replay.specs.Calls.{answers, ask, asked, held, stays};
-ghost use Rattle.replay.specs.Promise.{MainPromise, Promise, Told};
+ghost use Rattle.replay.specs.Calls.{answer_told, answers, ask, asked, held, stays};
+ghost use Rattle.replay.specs.Promise.{After, MainPromise, Promise, Told};
 ghost use Rattle.std.specs.Prelude.{◌≡◌, true, map, IfOk};
 
 use fabric::Fabric;
@@ -37,7 +38,8 @@ fn dispatch<F: Fabric>(plan: &mut Plan<'_, F>, call: &Call<'_>) -> Answer
     }
 }
 
-// Runs one call on a plan. It needs no memory but the plan's. A clean plan stays clean, and the call is answered as promised.
+// Runs one call on a plan. It needs no memory but the plan's. A clean plan stays clean, the call is answered as promised, and what is
+// held then is what its answer says.
 pub fn step<F: Fabric>(plan: &mut Plan<'_, F>, call: &Call<'_>) -> Answer
     ensures answer { result ≡ (ask (setting F.Fabric.meaning plan.old) (jobs plan.old) (asked call.now)).0 }
     ensures after { jobs plan.new ≡ (ask (setting F.Fabric.meaning plan.old) (jobs plan.old) (asked call.now)).1 }
@@ -45,6 +47,9 @@ pub fn step<F: Fabric>(plan: &mut Plan<'_, F>, call: &Call<'_>) -> Answer
     ensures unchanged { stays result ≡ true → plan.new ≡ plan.old }
     ensures keeps { Clean (setting F.Fabric.meaning plan.old) (jobs plan.old) → Clean (setting F.Fabric.meaning plan.old) (jobs plan.new) }
     ensures told { Clean (setting F.Fabric.meaning plan.old) (jobs plan.old) → Told (setting F.Fabric.meaning plan.old) (jobs plan.old) (asked call.now) result }
+    ensures numbers { answer_told result ≡ answer_told (ask (setting F.Fabric.meaning plan.old) (jobs plan.old) (asked call.now)).0 }
+    ensures left { Clean (setting F.Fabric.meaning plan.old) (jobs plan.old) → After (setting F.Fabric.meaning plan.old) (jobs plan.old) (asked call.now) result (jobs plan.new) }
+    ensures canonical { Canonical (jobs plan.old) → Canonical (jobs plan.new) }
 {
     dispatch(plan, call)
 }
@@ -56,6 +61,7 @@ pub fn replay<'f, F: Fabric>(
     calls: &[Call<'_>],
 ) -> Result<(Plan<'f, F>, Vec<Answer>), AllocError>
     ensures answers { IfOk result (λ p. p.1.items ≡ answers (over F.Fabric.meaning fabric.now) nothing (map asked calls.now)) }
+    ensures numbers { IfOk result (λ p. map answer_told p.1.items ≡ map answer_told (answers (over F.Fabric.meaning fabric.now) nothing (map asked calls.now))) }
     ensures held { IfOk result (λ p. jobs p.0 ≡ held (over F.Fabric.meaning fabric.now) nothing (map asked calls.now)) }
     ensures fabric { IfOk result (λ p. setting F.Fabric.meaning p.0 ≡ over F.Fabric.meaning fabric.now) }
     ensures clean { IfOk result (λ p. Clean (over F.Fabric.meaning fabric.now) (jobs p.0)) }

@@ -4,7 +4,7 @@ use Rattle.jobs.specs.Jobs.{over}
 use Rattle.plan.specs.Held.{jobs}
 use Rattle.replay.specs.declared.calls.Call.{Call}
 use Rattle.replay.specs.declared.calls.Call.TheVariants.{OfferTask}
-use Rattle.replay.specs.Calls.{asked, ask}
+use Rattle.replay.specs.Calls.{answer_told, asked, ask}
 use Rattle.promise.specs.Clean.{Clean}
 use Rattle.replay.proofs.Promises.{promise}
 use Rattle.replay.proofs.Runs.{answers_on, answers_end, held_on, held_end}
@@ -32,9 +32,11 @@ returns g c =
     let calls = c.args.calls.now in
     let laws = g.F.Fabric.lawful c.args.fabric.now in
     let is = held_end s calls c.loop-call.call-index (jobs c.loop-call.plan) _ c.loop-call-test.false c.loop-call.invariant.2 in
+    let told = answers_end s calls c.loop-call.call-index (jobs c.loop-call.plan) _ _ c.loop-call-test.false c.loop-call.invariant.1 in
     let kept = promise s g.F.Fabric.longest g.F.Fabric.bounded laws (map asked calls) in
     record {
-      answers = answers_end s calls c.loop-call.call-index (jobs c.loop-call.plan) _ _ c.loop-call-test.false c.loop-call.invariant.1;
+      answers = told;
+      numbers = ap (map answer_told) told;
       held = is;
       fabric = c.loop-call.invariant.0;
       clean = subst (Clean s) (sym is) kept.clean;
@@ -45,6 +47,7 @@ pub returns-in_err-push : goal.returns-in_err-push
 returns-in_err-push g c =
     record {
       answers = search rules;
+      numbers = search rules;
       held = search rules;
       fabric = search rules;
       clean = search rules;

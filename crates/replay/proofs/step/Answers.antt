@@ -1,9 +1,11 @@
-use Rattle.std.proofs.Common.{sym, subst}
+use Rattle.std.proofs.Common.{sym, ap, subst}
 use Rattle.plan.specs.Held.{jobs, setting}
+use Rattle.promise.specs.Canonical.{Canonical}
 use Rattle.promise.specs.Clean.{Clean}
-use Rattle.replay.specs.Calls.{asked}
-use Rattle.replay.specs.Promise.{Told}
-use Rattle.replay.proofs.Promises.{ask_keeps, told}
+use Rattle.replay.specs.Calls.{answer_told, ask, asked}
+use Rattle.replay.specs.Promise.{After, Told}
+use Rattle.replay.proofs.Afters.{after}
+use Rattle.replay.proofs.Promises.{ask_canonical, ask_keeps, told}
 use Rattle.replay.proofs.step.Goals as goal
 
 pub returns : goal.returns
@@ -19,4 +21,8 @@ returns g c =
       unchanged = c.dispatch.ensures.unchanged;
       keeps = λ clean. subst (Clean s) (sym c.dispatch.ensures.after) (ask_keeps s g.F.Fabric.longest g.F.Fabric.bounded laws (jobs p) a clean);
       told = λ clean. subst (Told s (jobs p) a) (sym c.dispatch.ensures.answer) (told s g.F.Fabric.longest g.F.Fabric.bounded laws (jobs p) clean a);
+      numbers = ap answer_told c.dispatch.ensures.answer;
+      left = λ clean. subst (λ r. After s (jobs p) a r (jobs c.dispatch.new.plan)) (sym c.dispatch.ensures.answer)
+          (subst (After s (jobs p) a (ask s (jobs p) a).0) (sym c.dispatch.ensures.after) (after s (jobs p) clean a));
+      canonical = λ kept. subst Canonical (sym c.dispatch.ensures.after) (ask_canonical s g.F.Fabric.longest g.F.Fabric.bounded laws (jobs p) a kept);
     }
