@@ -1,5 +1,5 @@
 -- What is held after a call, by its answer.
-use Rattle.std.proofs.Common.{◌≡◌, ℕ, Bool, true, false, cond, List, is_some, Some, None, Ok, Err, Option, Result, sym, refl, subst, ⊎_elim}
+use Rattle.std.proofs.Common.{◌≡◌, ℕ, Bool, true, false, cond, List, is_some, Some, None, Ok, Err, Option, Result, refl, subst}
 use Rattle.records.specs.Named.{add, spot, without}
 use Rattle.jobs.specs.declared.fault.DropFault.{DropFault}
 use Rattle.jobs.specs.declared.fault.DropFault.TheVariants.{InUse, Unknown}
@@ -11,15 +11,12 @@ use Rattle.jobs.specs.Open.{message_at, task_at}
 use Rattle.jobs.specs.Placings.{first_delay, first_phase, message_placed, task_placed}
 use Rattle.jobs.specs.Checks.{message_checks, task_checks}
 use Rattle.jobs.specs.Rules.{message_refusal, offered, task_refusal}
-use Rattle.promise.specs.Clean.{Clean, Distinct, In}
-use Rattle.promise.proofs.Lists.{add_new, add_old, in_add, in_without, without_old}
+use Rattle.promise.specs.Clean.{Clean, Distinct}
+use Rattle.promise.proofs.Lists.{in_without, without_old}
 use Rattle.replay.specs.declared.calls.Answer.TheVariants as answer
 use Rattle.replay.specs.Calls.{Ask, ask, asking_core, asking_link, asking_slack, dropping_message, dropping_task, loading, offering_message, offering_task, placing_message, placing_task}
 use Rattle.replay.specs.Promise.{After, Less, More}
-
--- a list with one member more has that one and those before
-more : {X : Type 0} (name : X → ℕ) (x : X) (xs : List X) → More x xs (add name x xs)
-more name x xs y = (in_add name x y xs, ⊎_elim (λ e. subst (λ z. In z (add name x xs)) (sym e) (add_new name x xs)) (λ i. add_old name x y xs i))
+use Rattle.replay.proofs.Joins.{load_left, more}
 
 -- a list without a name has those of other names
 less : {X : Type 0} (name : X → ℕ) (n : ℕ) (xs : List X) → Distinct name xs → Less name n xs (without name n xs)
@@ -65,7 +62,7 @@ after g js c (dropping_message n) = go (is_some (spot message_name n js.messages
     go : (b : Bool) → After g js (dropping_message n) (answer.Dropped (cond {A = Result (Unit {0}) DropFault × Jobs} b (Ok tt, without_message js n) (Err Unknown, js)).0) (cond {A = Result (Unit {0}) DropFault × Jobs} b (Ok tt, without_message js n) (Err Unknown, js)).1
     go true = (λ _. (less message_name n js.messages c.message_names, refl), λ e x. cc)
     go false = (λ x. cc, λ e x. refl)
-after g js c (loading part) = refl
+after g js c (loading part) = load_left g js part
 after g js c (asking_slack n) = refl
 after g js c (asking_core x n) = refl
 after g js c (asking_link l n) = refl

@@ -1,4 +1,4 @@
--- What a load answers and leaves held, by the offers that it tries.
+-- What a load answers, by the offers that it tries.
 use Rattle.std.proofs.Common.{◌≡◌, ℕ, zero, suc, ◌+◌, List, [], ◌∷◌, ◌++◌, length, Some, None, Ok, Err, Option, Result, sym, refl, ap, subst, ⊎_elim, arith, length-append}
 use Rattle.std.specs.List.{slice_get}
 use Rattle.records.specs.declared.record.Task.{Task}
@@ -22,11 +22,11 @@ nth_right (y ∷ xs) ys (suc k) n x l e =
     subst (λ (i : ℕ). slice_get (y ∷ (xs ++ ys)) i ≡ Some x) same (nth_right xs ys k n x (omega arith) e)
 
 module _ {X E : Type 0} (make : Jobs → X → Result (Unit {0}) E → Try) (refusal : Jobs → X → Option E) (held : Jobs → X → Jobs) where
-  abbrev tries : Jobs → List X → List Try
+  abbrev pub tries : Jobs → List X → List Try
   tries js xs = turn_tries make (λ j x. offered (refusal j x) j (held j x)) js xs
 
   -- the first try, and what follows where it is taken
-  abbrev begun : Option E → Jobs → X → List X → List Try
+  abbrev pub begun : Option E → Jobs → X → List X → List Try
   begun o js x xs = make js x (offered o js (held js x)).0 ∷ if_taken (offered o js (held js x)).0 (tries (offered o js (held js x)).1 xs)
 
   record AllTaken (js : Jobs) (xs : List X) (ys : List Try) : Type 0 where

@@ -4,7 +4,7 @@
 --   answers, held    the same of a list of calls
 --   answer_told      the number and values of what an answer refuses
 use Rattle.std.specs.Prelude.{ℕ, Bool, true, false, List, [], ◌∷◌, ◌⊎◌, Ok, Err, Option, Result}
-use mathlib.Core.Logic.{inl, inr}
+use Rattle.std.proofs.Common.{inl, inr}
 use Rattle.records.specs.declared.record.Task.{Task}
 use Rattle.records.specs.declared.record.Message.{Message}
 use Rattle.refusals.specs.Told.{refusal_of}

@@ -127,8 +127,22 @@ More {X = X} x before after = (y : X) → In y after ↔ ((y ≡ x) ⊎ In y bef
 abbrev pub Less : {X : Type 0} → (X → ℕ) → ℕ → List X → List X → Type 0
 Less {X = X} name n before after = (y : X) → In y after ↔ (In y before × (name y ≢ n))
 
--- by the answer: a taken task or message joins, a dropped one leaves, a load leaves what its offers in turn leave, and nothing else
--- changes
+-- a task or message of a taken try
+abbrev pub TakenTask : List Try → Task → Type 0
+TakenTask ys t = (before : Jobs) × In (task_try before t (Ok tt)) ys
+
+abbrev pub TakenMessage : List Try → Message → Type 0
+TakenMessage ys m = (before : Jobs) × In (message_try before m (Ok tt)) ys
+
+-- the new and those before, and no other
+abbrev pub Joined : {X : Type 0} → (X → Type 0) → List X → List X → Type 0
+Joined {X = X} New before after = (y : X) → In y after ↔ (New y ⊎ In y before)
+
+-- a load leaves the jobs held before and those of its taken tries, and no other
+abbrev pub LoadLeft : List Try → Jobs → Jobs → Type 0
+LoadLeft ys js after = Joined (TakenTask ys) js.tasks after.tasks × Joined (TakenMessage ys) js.messages after.messages
+
+-- by the answer: a taken task or message joins, a dropped one leaves, those of a load's taken offers join, and nothing else changes
 abbrev pub After : Setting → Jobs → Ask → Answer → Jobs → Type 0
 After g js (offering_task t) r after = (r ≡ answer.TaskOffered (Ok tt) → More t js.tasks after.tasks × (after.messages ≡ js.messages)) × ((e : TaskFault) → r ≡ answer.TaskOffered (Err e) → after ≡ js)
 After g js (offering_message m) r after = (r ≡ answer.MessageOffered (Ok tt) → More m js.messages after.messages × (after.tasks ≡ js.tasks)) × ((e : MessageFault) → r ≡ answer.MessageOffered (Err e) → after ≡ js)
@@ -136,7 +150,7 @@ After g js (placing_task t) r after = ((v : ℕ) → r ≡ answer.TaskPlaced (Ok
 After g js (placing_message m) r after = ((v : ℕ) → r ≡ answer.MessagePlaced (Ok v) → More (message_at m v) js.messages after.messages × (after.tasks ≡ js.tasks)) × ((e : PlacingFault MessageFault) → r ≡ answer.MessagePlaced (Err e) → after ≡ js)
 After g js (dropping_task n) r after = (r ≡ answer.Dropped (Ok tt) → Less (λ t. t.name) n js.tasks after.tasks × (after.messages ≡ js.messages)) × ((e : DropFault) → r ≡ answer.Dropped (Err e) → after ≡ js)
 After g js (dropping_message n) r after = (r ≡ answer.Dropped (Ok tt) → Less (λ m. m.name) n js.messages after.messages × (after.tasks ≡ js.tasks)) × ((e : DropFault) → r ≡ answer.Dropped (Err e) → after ≡ js)
-After g js (loading part) r after = after ≡ (load g js part).1
+After g js (loading part) r after = LoadLeft (load_tries g js part) js after
 After g js (asking_slack n) r after = after ≡ js
 After g js (asking_core c n) r after = after ≡ js
 After g js (asking_link l n) r after = after ≡ js
