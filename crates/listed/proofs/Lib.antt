@@ -2,3 +2,4 @@ pub mod Firsts
 pub mod Readings
 pub mod Finds
 pub mod Pairs
+pub mod Networks

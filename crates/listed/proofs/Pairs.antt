@@ -115,7 +115,7 @@ then_parts (Ok x) f v h = (x, h)
 then_parts (Err e) f v h = cc
 
 -- an answer where nothing was found wrong
-unless_parts : {T E : Type 0} (o : Option E) (r : Result T E) (v : T) → unless o r ≡ Ok v → (o ≡ None) × (r ≡ Ok v)
+pub unless_parts : {T E : Type 0} (o : Option E) (r : Result T E) (v : T) → unless o r ≡ Ok v → (o ≡ None) × (r ≡ Ok v)
 unless_parts None r v h = (refl, h)
 unless_parts (Some e) r v h = cc
 

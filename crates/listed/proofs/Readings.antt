@@ -10,7 +10,7 @@ use Rattle.records.specs.Head.{head_read}
 use Rattle.listed.specs.Setting.{head_fits, head_of_kind, of_listed, listed_head}
 
 -- an answer that stands behind a test that had to come out true
-ahead : {T E : Type 0} (t : Bool) (e : E) (o : Result T E) (v : T) → cond t o (Err e) ≡ Ok v → (t ≡ true) × (o ≡ Ok v)
+pub ahead : {T E : Type 0} (t : Bool) (e : E) (o : Result T E) (v : T) → cond t o (Err e) ≡ Ok v → (t ≡ true) × (o ≡ Ok v)
 ahead true e o v h = (refl, h)
 ahead false e o v h = cc
 
