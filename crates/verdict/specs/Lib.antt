@@ -1,2 +1,3 @@
 pub mod Verdict
 pub mod Told
+pub mod Judged

@@ -1,0 +1,3 @@
+pub mod Fabrics
+pub mod Taken
+pub mod Verdicts

@@ -1,0 +1,95 @@
+-- What the verdict on a plan file says of its jobs: from the load of its job part on its network. Assumes nothing.
+use Rattle.std.proofs.Common.{◌≡◌, ℕ, Bool, true, false, cond, List, length, Ok, Err, Result, sym, refl, ◌∙◌, subst}
+use Rattle.std.specs.Prelude.{nat_lt}
+use Rattle.records.specs.Head.{head_read}
+use Rattle.refusals.specs.declared.refusal.Counts.{Counts}
+use Rattle.fabric.specs.Network.{Network}
+use Rattle.listed.specs.Setting.{within}
+use Rattle.listed.specs.declared.faults.SetFault.{SetFault}
+use Rattle.jobs.specs.Jobs.{nothing}
+use Rattle.plan.specs.Loading.{load}
+use Rattle.plan.specs.declared.fault.LoadFault.{LoadFault}
+use Rattle.promise.proofs.Keeps.{load_keeps}
+use Rattle.replay.proofs.Loads.{load_told}
+use Rattle.replay.proofs.Promises.{new_clean, told}
+use Rattle.replay.specs.Calls.{loading}
+use Rattle.replay.specs.Promise.{LoadTold}
+use Rattle.verdict.specs.Judged.{FileClean, FileFabric, FileRefused, file_part, on}
+use Rattle.verdict.specs.Verdict.{by_kind, judged_on, verdict_of}
+use Rattle.verdict.specs.declared.fault.FileFault.{FileFault}
+use Rattle.verdict.specs.declared.fault.FileFault.TheVariants.{Extra, Load}
+use Rattle.verdict.proofs.Fabrics.{by_part, on_part, part_fabric}
+use Rattle.verdict.proofs.Taken.{load_taken}
+
+-- what a load answered is told by the verdict and by nothing else
+within_load : (a b : Result Counts LoadFault) → within Load a ≡ within Load b → a ≡ b
+within_load (Ok x) (Ok y) e = cc
+within_load (Ok x) (Err f) e = cc
+within_load (Err f) (Ok y) e = cc
+within_load (Err f) (Err h) e = cc
+
+-- a verdict of a load is not that of a file that is too long
+not_extra : (t : Bool) (v : Result Counts FileFault) (r : Result Counts LoadFault) → cond t (Err Extra) v ≡ within Load r → v ≡ within Load r
+not_extra true v (Ok n) e = cc
+not_extra true v (Err f) e = cc
+not_extra false v r e = e
+
+-- nor that of a fault of the fabric
+part_read : (o : Result (Network × List ℕ) SetFault) (r : Result Counts LoadFault) → on_part o ≡ within Load r
+    → (p : Network × List ℕ) × (o ≡ Ok p) × (judged_on p.0 p.1 ≡ within Load r)
+part_read (Ok p) r e = (p, refl, e)
+part_read (Err f) (Ok n) e = cc
+part_read (Err f) (Err h) e = cc
+
+-- the load of the file's job part on the file's network answered r
+record Loaded (file : List ℕ) (r : Result Counts LoadFault) : Type 0 where
+  pub net : Network
+  pub part : List ℕ
+  pub fabric : FileFabric file net part
+  pub is : (load (on net) nothing part).0 ≡ r
+
+loaded : (file : List ℕ) (r : Result Counts LoadFault) → verdict_of file ≡ within Load r → Loaded file r
+loaded file r e =
+    let judged : on_part (file_part file) ≡ within Load r = sym (by_part file (head_read file)) ∙ not_extra (nat_lt 8192 (length file)) (by_kind file (head_read file)) r e in
+    let (p, read, is) = part_read (file_part file) r judged in
+    record {
+      net = p.0;
+      part = p.1;
+      fabric = part_fabric file p.0 p.1 read;
+      is = within_load (load (on p.0) nothing p.1).0 r is;
+    }
+
+-- the jobs of a file whose verdict counts them are clean
+pub file_clean : (file : List ℕ) (n : Counts) → verdict_of file ≡ Ok n → FileClean file n
+file_clean file n e =
+    let l = loaded file (Ok n) e in
+    let g = on l.net in
+    let t = load_taken g l.part n l.is in
+    record {
+      net = l.net;
+      part = l.part;
+      fabric = l.fabric;
+      tasks = t.tasks;
+      messages = t.messages;
+      records = t.records;
+      held = (load g nothing l.part).1;
+      all_tasks = t.all_tasks;
+      all_messages = t.all_messages;
+      each_once = t.each_once;
+      clean = load_keeps g l.fabric.longest l.fabric.bounded l.fabric.lawful nothing l.part (new_clean g);
+      counted = t.counts ∙ (let once = t.each_once in cc);
+    }
+
+-- a refused load is refused as the model says
+pub file_refused : (file : List ℕ) (e : LoadFault) → verdict_of file ≡ Err (Load e) → FileRefused file e
+file_refused file e is =
+    let l = loaded file (Err e) is in
+    let g = on l.net in
+    let promised = told g l.fabric.longest l.fabric.bounded l.fabric.lawful nothing (new_clean g) (loading l.part) in
+    record {
+      net = l.net;
+      part = l.part;
+      fabric = l.fabric;
+      told = subst (LoadTold g nothing l.part) l.is (load_told g nothing l.part);
+      exact = promised.3;
+    }

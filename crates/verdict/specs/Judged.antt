@@ -1,0 +1,88 @@
+-- What a verdict says of a plan file, in the words of clean plans. Assumes nothing.
+--   file_part      the network of a file and the bytes of its job part
+--   FileFabric     the network that a file sets, which keeps the laws of every fabric
+--   FileClean      the jobs of a file that was taken whole are a clean plan on its fabric
+--   FileRefused    a load that was refused, by the offers that it tries
+use Rattle.std.specs.Prelude.{◌≡◌, ℕ, ◌≤◌, ◌↔◌, List, length, Ok, Err, Result}
+use Rattle.records.specs.Head.{head_read}
+use Rattle.records.specs.declared.head.FabricKind.{FabricKind}
+use Rattle.records.specs.declared.head.FabricKind.TheVariants.{Mesh as MeshKind, Listed as ListedKind}
+use Rattle.records.specs.declared.head.Head.{Head as FileHead}
+use Rattle.records.specs.declared.head.HeadFault.{HeadFault}
+use Rattle.records.specs.declared.head.HeadFault.TheVariants.{Limits}
+use Rattle.records.specs.declared.record.Task.{Task}
+use Rattle.records.specs.declared.record.Message.{Message}
+use Rattle.refusals.specs.declared.refusal.Counts.{Counts}
+use Rattle.fabric.specs.Grid.{grid_made}
+use Rattle.fabric.specs.Network.{Lawful, Network}
+use Rattle.listed.specs.Setting.{network, setting_read, then}
+use Rattle.listed.specs.declared.faults.SetFault.{SetFault}
+use Rattle.listed.specs.declared.faults.SetFault.TheVariants.{Head}
+use Rattle.jobs.specs.Jobs.{Jobs, Setting, nothing}
+use Rattle.plan.specs.Held.{counts_of}
+use Rattle.plan.specs.Loading.{job_part}
+use Rattle.plan.specs.declared.fault.LoadFault.{LoadFault}
+use Rattle.promise.specs.Clean.{Clean, In}
+use Rattle.replay.specs.Promise.{Exact, LoadTold, Try, load_tries}
+use Rattle.verdict.specs.Verdict.{mesh_sections}
+
+-- ---- the parts of a file
+
+-- a mesh, and what follows its empty sections
+abbrev pub mesh_part : Result Network ℕ → List ℕ → Result (Network × List ℕ) SetFault
+mesh_part (Err n) rest = Err (Head Limits)
+mesh_part (Ok net) rest = then (mesh_sections rest) (λ part. Ok (net, part))
+
+-- a listed fabric, and what follows its routes
+abbrev pub listed_part : List ℕ → Result (Network × List ℕ) SetFault
+listed_part file = then (setting_read file) (λ p. Ok (network p.0, p.1))
+
+abbrev pub kind_part : FabricKind → List ℕ → FileHead × List ℕ → Result (Network × List ℕ) SetFault
+kind_part MeshKind file p = mesh_part (grid_made p.0.x p.0.y p.0.delay) p.1
+kind_part ListedKind file p = listed_part file
+
+abbrev pub head_part : List ℕ → Result (FileHead × List ℕ) HeadFault → Result (Network × List ℕ) SetFault
+head_part file (Err e) = Err (Head e)
+head_part file (Ok p) = kind_part p.0.kind file p
+
+-- the network that the file's head makes, or its records, and the bytes of its job part
+abbrev pub file_part : List ℕ → Result (Network × List ℕ) SetFault
+file_part file = head_part file (head_read file)
+
+-- the network and the job part are the file's, and the network keeps the laws, with routes of at most 64 links
+pub record FileFabric (file : List ℕ) (net : Network) (part : List ℕ) : Type 0 where
+  pub read : file_part file ≡ Ok (net, part)
+  pub longest : ℕ
+  pub bounded : longest ≤ 64
+  pub lawful : Lawful longest net
+
+-- what a plan over the network is created with
+abbrev pub on : Network → Setting
+on net = record { network = net }
+
+-- ---- verdicts
+
+-- the jobs of the file's records, all of them and no other, are clean for all of time on the file's fabric, and n counts them
+pub record FileClean (file : List ℕ) (n : Counts) : Type 0 where
+  pub net : Network
+  pub part : List ℕ
+  pub fabric : FileFabric file net part
+  pub tasks : List Task
+  pub messages : List Message
+  pub records : job_part part ≡ Ok (tasks, messages)
+  pub held : Jobs
+  pub all_tasks : (t : Task) → In t held.tasks ↔ In t tasks
+  pub all_messages : (m : Message) → In m held.messages ↔ In m messages
+  pub each_once : (length held.tasks ≡ length tasks) × (length held.messages ≡ length messages)
+  pub clean : Clean (on net) held
+  pub counted : n ≡ counts_of held
+
+-- the job part is loaded into a new plan on the file's fabric: it has the layout fault e, or the offer of the record that e names,
+-- with the jobs of the records before it held, was refused for this; and each offer that was tried is answered as promised, so a
+-- refused one is refused by an earlier check, or because taking it would break the plan, for the reason told
+pub record FileRefused (file : List ℕ) (e : LoadFault) : Type 0 where
+  pub net : Network
+  pub part : List ℕ
+  pub fabric : FileFabric file net part
+  pub told : LoadTold (on net) nothing part (Err e)
+  pub exact : (y : Try) → In y (load_tries (on net) nothing part) → Exact (on net) y
