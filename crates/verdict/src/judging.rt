@@ -1,10 +1,10 @@
 // Judging a plan file: its own fabric and plan are made, its jobs loaded, and the verdict line written.
+ghost use Rattle.plan.specs.declared.fault.LoadFault.{LoadFault};
 ghost use Rattle.refusals.specs.Lines.{line_of, too_short};
 ghost use Rattle.refusals.specs.Told.{buffer_told, plain, refusal_of};
 ghost use Rattle.refusals.specs.Written.{written};
-ghost use Rattle.std.specs.Prelude.{◌≡◌, ◌≤◌, length, IfOk, if◌then◌else◌, Some, None, Ok, Err, MatchResult, nat_lt};
-ghost use Rattle.plan.specs.declared.fault.LoadFault.{LoadFault};
 ghost use Rattle.refusals.specs.declared.refusal.Counts.{Counts};
+ghost use Rattle.std.specs.Prelude.{◌≡◌, ◌≤◌, length, IfOk, if◌then◌else◌, Some, None, Ok, Err, MatchResult, nat_lt};
 ghost use Rattle.verdict.specs.Judged.{FileClean, FileRefused};
 ghost use Rattle.verdict.specs.Told.{verdict_line};
 ghost use Rattle.verdict.specs.Verdict.{judged_on, listed_verdict, mesh_sections, mesh_verdict, verdict_of};
