@@ -1,24 +1,29 @@
 -- Plans that were worked by hand, with the answers found there. Assumes nothing.
-use Rattle.std.specs.Prelude.{◌≡◌, ℕ, List, [], ◌∷◌, ℤ, pos, negsuc, Some, Ok, Err}
+use Rattle.std.specs.Prelude.{◌≡◌, ℕ, List, [], ◌∷◌, ℤ, pos, negsuc, Some, Ok, Err, codes}
 use Rattle.fabric.specs.Grid.{grid}
 use Rattle.jobs.specs.declared.fault.TaskFault.TheVariants as task_fault
 use Rattle.jobs.specs.declared.fault.MessageFault.TheVariants as message_fault
 use Rattle.jobs.specs.declared.fault.PlacingFault.TheVariants as placing
 use Rattle.jobs.specs.Jobs.{Setting, nothing}
 use Rattle.plan.specs.declared.fault.LoadFault.TheVariants as load_fault
+use Rattle.refusals.specs.Lines.{line_of}
+use Rattle.verdict.specs.Told.{verdict_line}
+use Rattle.verdict.specs.Verdict.{verdict_of}
 use Rattle.replay.specs.declared.calls.Answer.{Answer}
 use Rattle.replay.specs.declared.calls.Answer.TheVariants as answer
 use Rattle.replay.specs.Calls.{Ask, answers, asking_slack, loading, offering_message, offering_task, placing_message, placing_task}
 
--- calls on a new plan with their answers in order, or the route between two nodes
+-- calls on a new plan with their answers in order, the route between two nodes, or a plan file with its verdict line
 pub data Case : Type 0 where
   calling : Setting → List Ask → List Answer → Case
   routing : Setting → (from to : ℕ) → List ℕ → Case
+  judging : (file line : List ℕ) → Case
 
 -- the definitions give what the case tells
 abbrev pub Gives : Case → Type 0
 Gives (calling g asks told) = answers g nothing asks ≡ told
 Gives (routing g a b links) = g.network.route a b ≡ Some links
+Gives (judging file line) = line_of (verdict_line (verdict_of file)) ≡ line
 
 -- all cases of a list
 abbrev pub Give : List Case → Type 0
@@ -70,6 +75,10 @@ two_nodes delay =
     ∷ 0 ∷ 1
     ∷ 0 ∷ 1 ∷ 0 ∷ 1 ∷ 0 ∷ 2 ∷ 0 ∷ 0 ∷ 0 ∷ 0 ∷ 0 ∷ delay ∷ 0 ∷ 0 ∷ 0 ∷ 2 ∷ []
 
+-- the whole file of it, a mesh of 2 by 1 with hop delay 3
+abbrev pub two_nodes_file : ℕ → List ℕ
+two_nodes_file delay = 1 ∷ 1 ∷ 2 ∷ 1 ∷ 3 ∷ 0 ∷ 0 ∷ 0 ∷ 0 ∷ 0 ∷ two_nodes delay
+
 -- the cases
 abbrev pub worked : List Case
 worked =
@@ -90,6 +99,10 @@ worked =
     ∷ calling (mesh 2 1 3) (loading (two_nodes 0) ∷ asking_slack 1 ∷ []) (all_loaded 2 1 ∷ answer.Slack (Ok (pos 6)) ∷ [])
     ∷ calling (mesh 2 1 3) (loading (two_nodes 6) ∷ asking_slack 1 ∷ []) (all_loaded 2 1 ∷ answer.Slack (Ok (pos 0)) ∷ [])
     ∷ calling (mesh 2 1 3) (loading (two_nodes 7) ∷ []) (answer.Loaded (Err (load_fault.Message 0 (message_fault.Late (negsuc 0)))) ∷ [])
+    -- the whole file of two nodes, and what is printed of it
+    ∷ judging (two_nodes_file 0) (codes "CLEAR 2 1\n")
+    ∷ judging (two_nodes_file 6) (codes "CLEAR 2 1\n")
+    ∷ judging (two_nodes_file 7) (codes "REFUSED 4 0 19 LATE -1\n")
     -- a second message meets the first on its link, and is placed behind it
     ∷ calling (mesh 2 1 3) (loading (two_nodes 0) ∷ message 2 1 2 0 1 2 ∷ open_message 2 1 2 0 2 ∷ []) (all_loaded 2 1 ∷ message_meets 5 1 0 ∷ answer.MessagePlaced (Ok 2) ∷ [])
     -- to a faster reader the least slack is not that of packet 0, and by kind 1 there is a period more

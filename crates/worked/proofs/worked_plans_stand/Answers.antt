@@ -3,13 +3,14 @@ use Rattle.holds.specs.First.{first}
 use Rattle.holds.specs.Gcd.{euclid, gcd}
 use Rattle.holds.specs.Search.{first_from}
 use Rattle.holds.specs.Span.{busy, gap}
+use Rattle.std.specs.Fmt.{digits}
 use Rattle.worked.specs.Worked.{Worked}
 use Rattle.worked.proofs.worked_plans_stand.Goals as goal
 
 -- every case by computing it
 plans : Worked
-unfolding first euclid gcd first_from busy gap
-plans = (refl, (refl, (refl, (refl, (refl, (refl, (refl, (refl, (refl, (refl, (refl, (refl, (refl, (refl, tt))))))))))))))
+unfolding first euclid gcd first_from busy gap digits
+plans = (refl, (refl, (refl, (refl, (refl, (refl, (refl, (refl, (refl, (refl, (refl, (refl, (refl, (refl, (refl, (refl, (refl, tt)))))))))))))))))
 
 pub returns : goal.returns
 returns c = record { answer = refl; plans = plans }
