@@ -62,7 +62,7 @@ after g js c (dropping_message n) = go (is_some (spot message_name n js.messages
     go : (b : Bool) → After g js (dropping_message n) (answer.Dropped (cond {A = Result (Unit {0}) DropFault × Jobs} b (Ok tt, without_message js n) (Err Unknown, js)).0) (cond {A = Result (Unit {0}) DropFault × Jobs} b (Ok tt, without_message js n) (Err Unknown, js)).1
     go true = (λ _. (less message_name n js.messages c.message_names, refl), λ e x. cc)
     go false = (λ x. cc, λ e x. refl)
-after g js c (loading part) = load_left g js part
+after g js c (loading part) = (refl, load_left g js part)
 after g js c (asking_slack n) = refl
 after g js c (asking_core x n) = refl
 after g js c (asking_link l n) = refl
