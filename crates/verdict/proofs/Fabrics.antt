@@ -1,4 +1,4 @@
--- The parts of a plan file: its network keeps the laws, and its verdict is that of its job part on that network. Assumes nothing.
+-- The parts of a plan file: its network keeps the laws. Assumes nothing.
 use Rattle.std.proofs.Common.{◌≡◌, ℕ, ◌≤◌, ◌&&◌, List, Ok, Err, Result, refl, ap, subst, lit≤}
 use Rattle.std.proofs.lemmas.Bool.{and_parts, leb-true}
 use Rattle.std.specs.Prelude.{nat_le}
@@ -7,18 +7,14 @@ use Rattle.records.specs.declared.head.FabricKind.{FabricKind}
 use Rattle.records.specs.declared.head.FabricKind.TheVariants.{Mesh as MeshKind, Listed as ListedKind}
 use Rattle.records.specs.declared.head.Head.{Head as FileHead}
 use Rattle.records.specs.declared.head.HeadFault.{HeadFault}
-use Rattle.refusals.specs.declared.refusal.Counts.{Counts}
 use Rattle.fabric.specs.Grid.{grid, grid_made, sizes_fit}
 use Rattle.fabric.specs.MeshLaws.{mesh_lawful}
 use Rattle.fabric.specs.Network.{Lawful, Network}
-use Rattle.listed.specs.Setting.{Setting, network, setting_read, then, within}
-use Rattle.listed.specs.declared.faults.SetFault.{SetFault}
+use Rattle.listed.specs.Setting.{network, setting_read}
 use Rattle.listed.proofs.Networks.{set_lawful, then_read}
 use Rattle.listed.proofs.Readings.{ahead}
-use Rattle.verdict.specs.Judged.{FileFabric, file_part, head_part, kind_part, listed_part, mesh_part}
-use Rattle.verdict.specs.Verdict.{by_kind, judged_on, mesh_sections, of_kind, on_mesh}
-use Rattle.verdict.specs.declared.fault.FileFault.{FileFault}
-use Rattle.verdict.specs.declared.fault.FileFault.TheVariants.{Fabric}
+use Rattle.verdict.specs.Judged.{FileFabric}
+use Rattle.verdict.specs.Verdict.{file_part, head_part, kind_part, listed_part, mesh_part, mesh_sections}
 
 -- ---- laws
 
@@ -67,29 +63,3 @@ module _ (file : List ℕ) (net : Network) (part : List ℕ) where
   part_fabric is =
       let (longest, bounded, lawful) = head_laws (head_read file) is in
       record { read = is; longest = longest; bounded = bounded; lawful = lawful }
-
--- ---- the verdict by the parts
-
--- the job part is loaded into a new plan over the network
-abbrev pub on_part : Result (Network × List ℕ) SetFault → Result Counts FileFault
-on_part o = then (within Fabric o) (λ p. judged_on p.0 p.1)
-
-on_mesh_part : (o : Result Network ℕ) (rest : List ℕ) → on_mesh o rest ≡ on_part (mesh_part o rest)
-on_mesh_part (Err n) rest = refl
-on_mesh_part (Ok net) rest = go (mesh_sections rest)
-  where
-    go : (r : Result (List ℕ) SetFault) → then (within Fabric r) (judged_on net) ≡ on_part (then r (λ part. Ok (net, part)))
-    go (Err e) = refl
-    go (Ok part) = refl
-
-of_kind_part : (kind : FabricKind) (file : List ℕ) (p : FileHead × List ℕ) → of_kind kind file p ≡ on_part (kind_part kind file p)
-of_kind_part MeshKind file p = on_mesh_part (grid_made p.0.x p.0.y p.0.delay) p.1
-of_kind_part ListedKind file p = go (setting_read file)
-  where
-    go : (r : Result (Setting × List ℕ) SetFault) → then (within Fabric r) (λ p. judged_on (network p.0) p.1) ≡ on_part (then r (λ p. Ok (network p.0, p.1)))
-    go (Err e) = refl
-    go (Ok part) = refl
-
-pub by_part : (file : List ℕ) (o : Result (FileHead × List ℕ) HeadFault) → by_kind file o ≡ on_part (head_part file o)
-by_part file (Err e) = refl
-by_part file (Ok p) = of_kind_part p.0.kind file p

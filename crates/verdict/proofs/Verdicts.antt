@@ -1,7 +1,6 @@
 -- What the verdict on a plan file says of its jobs: from the load of its job part on its network. Assumes nothing.
-use Rattle.std.proofs.Common.{◌≡◌, ℕ, Bool, true, false, cond, List, length, Ok, Err, Result, sym, refl, ◌∙◌, subst}
+use Rattle.std.proofs.Common.{◌≡◌, ℕ, Bool, true, false, cond, List, length, Ok, Err, Result, refl, ◌∙◌, subst}
 use Rattle.std.specs.Prelude.{nat_lt}
-use Rattle.records.specs.Head.{head_read}
 use Rattle.refusals.specs.declared.refusal.Counts.{Counts}
 use Rattle.fabric.specs.Network.{Network}
 use Rattle.listed.specs.Setting.{within}
@@ -14,11 +13,11 @@ use Rattle.replay.proofs.Loads.{load_told}
 use Rattle.replay.proofs.Promises.{new_clean, told}
 use Rattle.replay.specs.Calls.{loading}
 use Rattle.replay.specs.Promise.{LoadTold}
-use Rattle.verdict.specs.Judged.{FileClean, FileFabric, FileRefused, file_part, on}
-use Rattle.verdict.specs.Verdict.{by_kind, judged_on, verdict_of}
+use Rattle.verdict.specs.Judged.{FileClean, FileFabric, FileRefused, on}
+use Rattle.verdict.specs.Verdict.{file_part, judged_on, on_part, verdict_of}
 use Rattle.verdict.specs.declared.fault.FileFault.{FileFault}
 use Rattle.verdict.specs.declared.fault.FileFault.TheVariants.{Extra, Load}
-use Rattle.verdict.proofs.Fabrics.{by_part, on_part, part_fabric}
+use Rattle.verdict.proofs.Fabrics.{part_fabric}
 use Rattle.verdict.proofs.Taken.{load_taken}
 
 -- what a load answered is told by the verdict and by nothing else
@@ -50,7 +49,7 @@ record Loaded (file : List ℕ) (r : Result Counts LoadFault) : Type 0 where
 
 loaded : (file : List ℕ) (r : Result Counts LoadFault) → verdict_of file ≡ within Load r → Loaded file r
 loaded file r e =
-    let judged : on_part (file_part file) ≡ within Load r = sym (by_part file (head_read file)) ∙ not_extra (nat_lt 8192 (length file)) (by_kind file (head_read file)) r e in
+    let judged : on_part (file_part file) ≡ within Load r = not_extra (nat_lt 8192 (length file)) (on_part (file_part file)) r e in
     let (p, read, is) = part_read (file_part file) r judged in
     record {
       net = p.0;

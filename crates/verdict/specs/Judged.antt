@@ -1,53 +1,19 @@
 -- What a verdict says of a plan file, in the words of clean plans. Assumes nothing.
---   file_part      the network of a file and the bytes of its job part
 --   FileFabric     the network that a file sets, which keeps the laws of every fabric
 --   FileClean      the jobs of a file that was taken whole are a clean plan on its fabric
 --   FileRefused    a load that was refused, by the offers that it tries
-use Rattle.std.specs.Prelude.{◌≡◌, ℕ, ◌≤◌, ◌↔◌, List, length, Ok, Err, Result}
-use Rattle.records.specs.Head.{head_read}
-use Rattle.records.specs.declared.head.FabricKind.{FabricKind}
-use Rattle.records.specs.declared.head.FabricKind.TheVariants.{Mesh as MeshKind, Listed as ListedKind}
-use Rattle.records.specs.declared.head.Head.{Head as FileHead}
-use Rattle.records.specs.declared.head.HeadFault.{HeadFault}
-use Rattle.records.specs.declared.head.HeadFault.TheVariants.{Limits}
+use Rattle.std.specs.Prelude.{◌≡◌, ℕ, ◌≤◌, ◌↔◌, List, length, Ok, Err}
 use Rattle.records.specs.declared.record.Task.{Task}
 use Rattle.records.specs.declared.record.Message.{Message}
 use Rattle.refusals.specs.declared.refusal.Counts.{Counts}
-use Rattle.fabric.specs.Grid.{grid_made}
 use Rattle.fabric.specs.Network.{Lawful, Network}
-use Rattle.listed.specs.Setting.{network, setting_read, then}
-use Rattle.listed.specs.declared.faults.SetFault.{SetFault}
-use Rattle.listed.specs.declared.faults.SetFault.TheVariants.{Head}
 use Rattle.jobs.specs.Jobs.{Jobs, Setting, nothing}
 use Rattle.plan.specs.Held.{counts_of}
 use Rattle.plan.specs.Loading.{job_part}
 use Rattle.plan.specs.declared.fault.LoadFault.{LoadFault}
 use Rattle.promise.specs.Clean.{Clean, In}
 use Rattle.replay.specs.Promise.{Exact, LoadTold, Try, load_tries}
-use Rattle.verdict.specs.Verdict.{mesh_sections}
-
--- ---- the parts of a file
-
--- a mesh, and what follows its empty sections
-abbrev pub mesh_part : Result Network ℕ → List ℕ → Result (Network × List ℕ) SetFault
-mesh_part (Err n) rest = Err (Head Limits)
-mesh_part (Ok net) rest = then (mesh_sections rest) (λ part. Ok (net, part))
-
--- a listed fabric, and what follows its routes
-abbrev pub listed_part : List ℕ → Result (Network × List ℕ) SetFault
-listed_part file = then (setting_read file) (λ p. Ok (network p.0, p.1))
-
-abbrev pub kind_part : FabricKind → List ℕ → FileHead × List ℕ → Result (Network × List ℕ) SetFault
-kind_part MeshKind file p = mesh_part (grid_made p.0.x p.0.y p.0.delay) p.1
-kind_part ListedKind file p = listed_part file
-
-abbrev pub head_part : List ℕ → Result (FileHead × List ℕ) HeadFault → Result (Network × List ℕ) SetFault
-head_part file (Err e) = Err (Head e)
-head_part file (Ok p) = kind_part p.0.kind file p
-
--- the network that the file's head makes, or its records, and the bytes of its job part
-abbrev pub file_part : List ℕ → Result (Network × List ℕ) SetFault
-file_part file = head_part file (head_read file)
+use Rattle.verdict.specs.Verdict.{file_part}
 
 -- the network and the job part are the file's, and the network keeps the laws, with routes of at most 64 links
 pub record FileFabric (file : List ℕ) (net : Network) (part : List ℕ) : Type 0 where

@@ -17,9 +17,7 @@ use Rattle.refusals.specs.declared.refusal.Counts.{Counts}
 use Rattle.verdict.specs.declared.fault.FileFault.{FileFault}
 use Rattle.verdict.specs.declared.fault.FileFault.TheVariants.{Extra, Fabric, Load}
 
--- a job part is loaded into a new plan over a network
-abbrev pub judged_on : Network → List ℕ → Result Counts FileFault
-judged_on net part = within Load (load (record { network = net }) nothing part).0
+-- ---- the parts of a file
 
 -- a mesh file has no link and no route record; what follows is its job part
 abbrev pub mesh_sections : List ℕ → Result (List ℕ) SetFault
@@ -28,28 +26,43 @@ mesh_sections bytes =
     then (within Routes (section_read 16 0 ls.1)) (λ rs.
     Ok rs.1))
 
--- past the head of a mesh file, whose network was made or was outside the limits
-abbrev pub on_mesh : Result Network ℕ → List ℕ → Result Counts FileFault
-on_mesh (Err n) rest = Err (Fabric (Head Limits))
-on_mesh (Ok net) rest = then (within Fabric (mesh_sections rest)) (judged_on net)
+-- past the head of a mesh file, whose network was made or was outside the limits: the mesh, and its job part
+abbrev pub mesh_part : Result Network ℕ → List ℕ → Result (Network × List ℕ) SetFault
+mesh_part (Err n) rest = Err (Head Limits)
+mesh_part (Ok net) rest = then (mesh_sections rest) (λ part. Ok (net, part))
+
+-- a listed fabric, and what follows its routes
+abbrev pub listed_part : List ℕ → Result (Network × List ℕ) SetFault
+listed_part file = then (setting_read file) (λ p. Ok (network p.0, p.1))
+
+abbrev pub kind_part : FabricKind → List ℕ → FileHead × List ℕ → Result (Network × List ℕ) SetFault
+kind_part MeshKind file p = mesh_part (grid_made p.0.x p.0.y p.0.delay) p.1
+kind_part ListedKind file p = listed_part file
+
+abbrev pub head_part : List ℕ → Result (FileHead × List ℕ) HeadFault → Result (Network × List ℕ) SetFault
+head_part file (Err e) = Err (Head e)
+head_part file (Ok p) = kind_part p.0.kind file p
+
+-- the network that the file's head makes, or its records, and the bytes of its job part
+abbrev pub file_part : List ℕ → Result (Network × List ℕ) SetFault
+file_part file = head_part file (head_read file)
+
+-- ---- the verdict
+
+-- a job part is loaded into a new plan over a network
+abbrev pub judged_on : Network → List ℕ → Result Counts FileFault
+judged_on net part = within Load (load (record { network = net }) nothing part).0
+
+-- the job part on its network, or what is wrong before it
+abbrev pub on_part : Result (Network × List ℕ) SetFault → Result Counts FileFault
+on_part read = then (within Fabric read) (λ p. judged_on p.0 p.1)
 
 abbrev pub mesh_verdict : FileHead → List ℕ → Result Counts FileFault
-mesh_verdict h rest = on_mesh (grid_made h.x h.y h.delay) rest
+mesh_verdict h rest = on_part (mesh_part (grid_made h.x h.y h.delay) rest)
 
--- the whole of a listed file: its fabric is set, and its job part loaded
 abbrev pub listed_verdict : List ℕ → Result Counts FileFault
-listed_verdict file = then (within Fabric (setting_read file)) (λ p. judged_on (network p.0) p.1)
-
--- a mesh is made by the head, a listed fabric by the whole file
-abbrev pub of_kind : FabricKind → List ℕ → FileHead × List ℕ → Result Counts FileFault
-of_kind MeshKind file p = mesh_verdict p.0 p.1
-of_kind ListedKind file p = listed_verdict file
-
--- by the kind of fabric that the head names
-abbrev pub by_kind : List ℕ → Result (FileHead × List ℕ) HeadFault → Result Counts FileFault
-by_kind file (Err e) = Err (Fabric (Head e))
-by_kind file (Ok p) = of_kind p.0.kind file p
+listed_verdict file = on_part (listed_part file)
 
 -- a file has at most 8,192 bytes
 abbrev pub verdict_of : List ℕ → Result Counts FileFault
-verdict_of file = cond (nat_lt 8192 (length file)) (Err Extra) (by_kind file (head_read file))
+verdict_of file = cond (nat_lt 8192 (length file)) (Err Extra) (on_part (file_part file))
