@@ -119,9 +119,13 @@ Told g js (asking_link l n) r = (x : Result (Option (ℕ × ℕ)) PlaceFault) ×
 
 -- ---- what is held after
 
+-- the new and those before, and no other
+abbrev pub Joined : {X : Type 0} → (X → Type 0) → List X → List X → Type 0
+Joined {X = X} New before after = (y : X) → In y after ↔ (New y ⊎ In y before)
+
 -- x and those before, and no other
 abbrev pub More : {X : Type 0} → X → List X → List X → Type 0
-More {X = X} x before after = (y : X) → In y after ↔ ((y ≡ x) ⊎ In y before)
+More x = Joined (λ y. y ≡ x)
 
 -- those before that have another name, and no other
 abbrev pub Less : {X : Type 0} → (X → ℕ) → ℕ → List X → List X → Type 0
@@ -133,10 +137,6 @@ TakenTask ys t = (before : Jobs) × In (task_try before t (Ok tt)) ys
 
 abbrev pub TakenMessage : List Try → Message → Type 0
 TakenMessage ys m = (before : Jobs) × In (message_try before m (Ok tt)) ys
-
--- the new and those before, and no other
-abbrev pub Joined : {X : Type 0} → (X → Type 0) → List X → List X → Type 0
-Joined {X = X} New before after = (y : X) → In y after ↔ (New y ⊎ In y before)
 
 -- a load leaves the jobs held before and those of its taken tries, and no other
 abbrev pub LoadLeft : List Try → Jobs → Jobs → Type 0
