@@ -1,12 +1,12 @@
 -- Records that were written are read back. Assumes nothing.
-use Rattle.std.proofs.Common.{◌≡◌, ℕ, zero, suc, ◌+◌, ◌-◌, ◌*◌, ◌/◌, ◌<◌, ◌≤◌, true, cond, ltb, List, [], ◌∷◌, ◌++◌, length, get_or, take, drop, Some, None, Ok, Err, Option, sym, ap, ◌∙◌, le_of_suc-le-suc, not-suc-le-zero, suc-mul, zero-mul, arith, length-append}
+use Rattle.std.proofs.Common.{◌≡◌, ℕ, zero, suc, ◌+◌, ◌-◌, ◌*◌, ◌/◌, ◌<◌, ◌≤◌, ⊎_elim, true, false, cond, ltb, List, [], ◌∷◌, ◌++◌, length, get_or, take, drop, Some, None, Ok, Err, Option, sym, ap, ◌∙◌, le_of_suc-le-suc, not-suc-le-zero, suc-mul, zero-mul, arith, length-append}
 use Rattle.std.specs.List.{flat_map}
 use Rattle.std.proofs.lemmas.Nat.{le-div, div-mul-add}
 use Rattle.std.proofs.lemmas.List.{take_at, drop_at, drop-drop}
-use Rattle.std.proofs.lemmas.Bool.{cond-false, le-ltb}
+use Rattle.std.proofs.lemmas.Bool.{cases_lt, cond-false, le-ltb}
 use Rattle.std.proofs.lemmas.Bool.Decides.{nat_tests}
 use Rattle.records.specs.Bytes.{be, bytes_of}
-use Rattle.records.specs.Sections.{cut_of, fitting, record_at, record_bytes, section_records}
+use Rattle.records.specs.Sections.{cut_of, fitting, record_at, record_bytes, section_fits, section_records}
 use Rattle.records.proofs.Sections.{section_whole}
 
 module _ {R : Type 0} (form : R → List ℕ) (size : ℕ) (long : (x : R) → length (form x) ≡ size) where
@@ -59,3 +59,9 @@ module _ {R : Type 0} (form : R → List ℕ) (size : ℕ) (long : (x : R) → l
       ∙ cond-false (ltb (fitting size file) (be 2 file 0)) (Err (fitting size file)) _ (le-ltb (fitting size file) (be 2 file 0) enough)
       ∙ ap (λ l. Ok (l, drop (2 + be 2 file 0 * size) file)) front
       ∙ ap (λ l. Ok (flat_map form xs, l)) after
+
+  -- where fewer records fit after the count than there are, the section is too long
+  pub too_long : (xs : List R) (all room : ℕ) → 0 < size → room + 2 ≡ all → room / size < length xs → section_fits form xs all ≡ false
+  too_long xs all room some whole few =
+      let short : room < length xs * size = ⊎_elim (λ l. l) (λ h. absurd (omega (arith, few, le-div (length xs) room size some h))) (cases_lt room (length xs * size)) in
+      grind (arith, nat_tests, short, length_joined xs, whole)

@@ -4,8 +4,10 @@
 --   cut_of            the section at the front of a file, and the rest
 --   record_at         the record at a place of a section
 --   section_records   all records of a section, or the place of the first that is none
-use Rattle.std.specs.Prelude.{ℕ, zero, suc, ◌+◌, ◌-◌, ◌*◌, ◌/◌, cond, List, [], ◌∷◌, length, take, drop, Some, None, Ok, Err, Option, Result, nat_lt}
-use Rattle.records.specs.Bytes.{be}
+--   section_bytes     a section as it is written, and section_fits where it can be
+use Rattle.std.specs.Prelude.{ℕ, zero, suc, ◌+◌, ◌-◌, ◌*◌, ◌/◌, Bool, cond, ◌&&◌, List, [], ◌∷◌, length, take, drop, Some, None, Ok, Err, Option, Result, nat_le, nat_lt}
+use Rattle.std.specs.List.{flat_map}
+use Rattle.records.specs.Bytes.{be, bytes_of}
 
 -- the count at the front of a file, or none where fewer than two bytes are left
 abbrev pub count_of : List ℕ → Option ℕ
@@ -49,3 +51,11 @@ section_records parsed size bs = read_from (record_at parsed size bs) 0 (length 
 abbrev pub unread_place : {R : Type 0} → Result (List R) ℕ → Option ℕ
 unread_place (Ok xs) = None
 unread_place (Err k) = Some k
+
+-- a section as it is written: the count in two bytes, then the records
+abbrev pub section_bytes : {R : Type 0} → (R → List ℕ) → List R → List ℕ
+section_bytes form xs = bytes_of 2 (length xs) (flat_map form xs)
+
+-- two bytes can count the records, and the section has at most so many bytes
+abbrev pub section_fits : {R : Type 0} → (R → List ℕ) → List R → ℕ → Bool
+section_fits form xs room = nat_lt (length xs) 65536 && nat_le (length (section_bytes form xs)) room

@@ -1,6 +1,7 @@
-// Sections of records, read from lent bytes.
-ghost use Rattle.std.specs.Prelude.{◌≡◌, ◌/◌, length, Ok, Err, MatchResult};
-ghost use Rattle.records.specs.Sections.{count_of, cut_of, record_at, section_records, unread_place};
+// Sections of records, read from lent bytes and written into them.
+ghost use Rattle.std.specs.List.{flat_map};
+ghost use Rattle.std.specs.Prelude.{◌≡◌, ◌*◌, ◌/◌, if◌then◌else◌, ◌++◌, length, drop, Some, None, Ok, Err, MatchResult};
+ghost use Rattle.records.specs.Sections.{count_of, cut_of, record_at, section_bytes, section_fits, section_records, unread_place};
 
 use crate::record::Record;
 use std::marker::PhantomData;
@@ -80,4 +81,32 @@ pub fn cut<'a, R: Record>(file: &'a [u8]) -> Result<(Section<'a, R>, &'a [u8]), 
     }
     let (records, rest) = body.split_at(n * each);
     Ok((Section::over(records), rest))
+}
+
+// Writes records one after the other over bytes of exactly their size.
+fn write_records<R: Record>(out: &mut [u8], records: &[R])
+    requires { length out.old ≡ length records.now * R.Record.SIZE }
+    ensures { out.new ≡ flat_map R.Record.form records.now }
+{
+    for (i, x) in records.iter().enumerate() {
+        let from = i * R::SIZE;
+        x.write(&mut out[from..from + R::SIZE]);
+    }
+}
+
+// Writes the section of some records to the start of a buffer and answers its length; bytes beyond it stay. Where the buffer is
+// shorter, or two bytes cannot count the records, it is none, and the buffer stays.
+pub fn write_section<R: Record>(out: &mut [u8], records: &[R]) -> Option<usize>
+    ensures answer { result ≡ (if section_fits R.Record.form records.now (length out.old) then Some (length (section_bytes R.Record.form records.now)) else None) }
+    ensures bytes { out.new ≡ (if section_fits R.Record.form records.now (length out.old) then section_bytes R.Record.form records.now ++ drop (length (section_bytes R.Record.form records.now)) out.old else out.old) }
+{
+    let count = u16::try_from(records.len()).ok()?;
+    let room = out.len().checked_sub(2)?;
+    if room / R::SIZE < records.len() {
+        return None;
+    }
+    let end = 2 + records.len() * R::SIZE;
+    out[..2].copy_from_slice(&count.to_be_bytes());
+    write_records(&mut out[2..end], records);
+    Some(end)
 }
