@@ -1,3 +1,4 @@
 pub mod Turns
 pub mod Checks
 pub mod Placing
+pub mod Writing

@@ -8,6 +8,9 @@ mod loading;
 mod offers;
 mod placings;
 mod questions;
+mod writing;
+
+pub use writing::LONGEST_PART;
 
 #[derive(Drop)]
 pub struct Plan<'f, F: Fabric> {

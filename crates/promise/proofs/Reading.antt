@@ -6,13 +6,13 @@ use Rattle.std.specs.List.{flat_map}
 use Rattle.std.proofs.lemmas.List.{append-nil}
 use Rattle.std.proofs.lemmas.Bool.{and_from, cond-true, lt-ltb}
 use Rattle.records.specs.Forms.{message_in, message_form, message_of, task_form, task_of}
-use Rattle.records.specs.Sections.{cut_of, section_records}
+use Rattle.records.specs.Sections.{cut_of, section_bytes, section_records}
 use Rattle.records.specs.declared.record.Task.{Task}
 use Rattle.records.specs.declared.record.Message.{Message}
 use Rattle.records.proofs.Back.{cut_back, records_back}
 use Rattle.jobs.specs.Jobs.{Jobs}
 use Rattle.plan.specs.Loading.{both_read, job_part, messages_cut, tasks_cut}
-use Rattle.plan.specs.Writing.{forms, part_bytes, section_bytes}
+use Rattle.plan.specs.Writing.{part_bytes}
 use Rattle.promise.specs.Clean.{In}
 
 -- each field of a task is below what its bytes can say
@@ -69,27 +69,21 @@ message_back m h =
 
 -- ---- sections
 
-module _ {R : Type 0} (form : R → List ℕ) where
-  -- the written records are their byte forms joined
-  forms_joined : (xs : List R) → forms form xs ≡ flat_map form xs
-  forms_joined [] = refl
-  forms_joined (x ∷ xs) = ap (λ l. form x ++ l) (forms_joined xs)
-
-  -- the element at a place within is a member
-  place_in : (xs : List R) (i : ℕ) (d : R) → i < length xs → In (get_or xs i d) xs
-  place_in [] i d h = absurd (omega arith)
-  place_in (x ∷ xs) zero d h = (0, refl)
-  place_in (x ∷ xs) (suc i) d h = let k = place_in xs i d (omega arith) in (suc k.0, k.1)
+-- the element at a place within is a member
+place_in : {R : Type 0} (xs : List R) (i : ℕ) (d : R) → i < length xs → In (get_or xs i d) xs
+place_in [] i d h = absurd (omega arith)
+place_in (x ∷ xs) zero d h = (0, refl)
+place_in (x ∷ xs) (suc i) d h = let k = place_in xs i d (omega arith) in (suc k.0, k.1)
 
 module _ {R : Type 0} (form : R → List ℕ) (parsed : List ℕ → Option R) (long : (x : R) → length (form x) ≡ 16) (xs : List R) where
   -- a section is cut off the front of what follows it
-  section_cut : (rest : List ℕ) → length xs ≤ 65535 → cut_of 16 (section_bytes form xs ++ rest) ≡ Ok (forms form xs, rest)
-  section_cut rest few = rw (forms_joined form xs) (cut_back form 16 long xs rest (omega arith) (omega arith))
+  section_cut : (rest : List ℕ) → length xs ≤ 65535 → cut_of 16 (section_bytes form xs ++ rest) ≡ Ok (flat_map form xs, rest)
+  section_cut rest few = cut_back form 16 long xs rest (omega arith) (omega arith)
 
   -- its records are those that were written
-  section_back : ((x : R) → In x xs → parsed (form x) ≡ Some x) → section_records parsed 16 (forms form xs) ≡ Ok xs
+  section_back : ((x : R) → In x xs → parsed (form x) ≡ Some x) → section_records parsed 16 (flat_map form xs) ≡ Ok xs
   section_back back =
-      rw (forms_joined form xs) (records_back form 16 long parsed xs (omega arith) (λ i d h. back (get_or xs i d) (place_in form xs i d h)))
+      records_back form 16 long parsed xs (omega arith) (λ i d h. back (get_or xs i d) (place_in xs i d h))
 
 -- ---- the part
 
@@ -101,9 +95,9 @@ module _ (js : Jobs) (tasks_few : length js.tasks ≤ 65535) (messages_few : len
       let ts = section_back task_form task_of (λ t. refl) js.tasks (λ t i. task_back t (tasks_fit t i)) in
       let ms = section_back message_form message_of (λ m. refl) js.messages (λ m i. message_back m (messages_fit m i)) in
       let cut_tasks = section_cut task_form task_of (λ t. refl) js.tasks (section_bytes message_form js.messages) tasks_few in
-      let cut_messages : cut_of 16 (section_bytes message_form js.messages) ≡ Ok (forms message_form js.messages, []) =
+      let cut_messages : cut_of 16 (section_bytes message_form js.messages) ≡ Ok (flat_map message_form js.messages, []) =
       ap (cut_of 16) (sym (append-nil (section_bytes message_form js.messages))) ∙ section_cut message_form message_of (λ m. refl) js.messages [] messages_few in
       ap tasks_cut cut_tasks
-      ∙ ap (messages_cut (forms task_form js.tasks)) cut_messages
-      ∙ ap (λ r. both_read r (section_records message_of 16 (forms message_form js.messages))) ts
+      ∙ ap (messages_cut (flat_map task_form js.tasks)) cut_messages
+      ∙ ap (λ r. both_read r (section_records message_of 16 (flat_map message_form js.messages))) ts
       ∙ ap (both_read (Ok js.tasks)) ms

@@ -1,0 +1,53 @@
+use Rattle.std.proofs.Common.{◌≡◌, ◌∙◌, ◌+◌, ◌*◌, true, false, length, is_some, Option, ℕ, Some, sym, ap, rules, arith}
+use Rattle.std.proofs.lemmas.Bool.{lt-ltb}
+use Rattle.plan.specs.Held.{jobs}
+use Rattle.plan.specs.Writing.{too_long}
+use Rattle.plan.proofs.Writing.{few_messages, few_tasks, length_bound, length_tested, messages_told, messages_written}
+use Rattle.plan.proofs.plan.Plan.write.Given.{Over}
+use Rattle.plan.proofs.plan.Plan.write.Goals as goal
+
+-- the sum of the code is the length of the job part
+short : (g : Over) (c : goal.Then-out-tasks g) → too_long (jobs c.args.self.now) (length c.args.out.now) ≡ true
+short g c =
+    let sum = 4 + length c.held-tasks.result.now * 16 + length c.held-messages.result.now * 16 in
+    length_tested (jobs c.args.self.now) (length c.args.out.now)
+    ∙ rw (sym c.held-tasks.ensures, sym c.held-messages.ensures) (lt-ltb (length c.args.out.now) sum c.if-out-tasks.true)
+
+pub returns-then-out-tasks-clause-answer : goal.returns-then-out-tasks-clause-answer
+returns-then-out-tasks-clause-answer g c = rw (short g c) (search rules)
+
+pub returns-then-out-tasks-clause-buffer : goal.returns-then-out-tasks-clause-buffer
+returns-then-out-tasks-clause-buffer g c = rw (short g c) (search rules)
+
+pub returns-then-out-tasks-clause-told : goal.returns-then-out-tasks-clause-told
+returns-then-out-tasks-clause-told g c = rw (short g c) (search rules)
+
+-- what has a value is not none
+told_none : {r : Option ℕ} {n : ℕ} → r ≡ Some n → false ≡ is_some r → ⊥
+told_none told none = let e : false ≡ true = none ∙ ap is_some told in absurd cc
+
+pub returns-in_err-rest-clause-buffer : goal.returns-in_err-rest-clause-buffer
+returns-in_err-rest-clause-buffer g c =
+    let p = c.args.self.now in
+    let told = messages_told (jobs p) (few_tasks p 128 (omega arith)) (few_messages p) c.held-tasks.result.now c.held-messages.result.now c.held-tasks.ensures c.held-messages.ensures
+    c.args.out.now c.write_section.new.out c.in_ok-middle.middle c.write_section.result c.if-out-tasks.false c.write_section.ensures.answer c.in_ok-middle.ensures.ok_part c.write_section.ensures.bytes
+    c.write_section-2.ensures.answer in
+    absurd (told_none told c.in_err-rest.ensures.variant)
+
+pub returns-clause-buffer : goal.returns-clause-buffer
+returns-clause-buffer g c =
+    let p = c.args.self.now in
+    messages_written (jobs p) (few_tasks p 128 (omega arith)) (few_messages p) c.held-tasks.result.now c.held-messages.result.now c.held-tasks.ensures c.held-messages.ensures
+    c.args.out.now c.write_section.new.out c.in_ok-middle.middle c.write_section.result c.if-out-tasks.false c.write_section.ensures.answer c.in_ok-middle.ensures.ok_part c.write_section.ensures.bytes
+    c.write_section-2.ensures.bytes
+
+pub returns-clause-bound : goal.returns-clause-bound
+returns-clause-bound g c =
+    let p = c.args.self.now in
+    let told = messages_told (jobs p) (few_tasks p 128 (omega arith)) (few_messages p) c.held-tasks.result.now c.held-messages.result.now c.held-tasks.ensures c.held-messages.ensures
+    c.args.out.now c.write_section.new.out c.in_ok-middle.middle c.write_section.result c.if-out-tasks.false c.write_section.ensures.answer c.in_ok-middle.ensures.ok_part c.write_section.ensures.bytes
+    c.write_section-2.ensures.answer in
+    let rest = c.in_ok-rest.ensures.ok_part in
+    length_bound (jobs p) (few_tasks p 128 (omega arith)) (few_messages p) c.held-tasks.result.now c.held-messages.result.now c.held-tasks.ensures c.held-messages.ensures
+    c.args.out.now c.write_section.new.out c.in_ok-middle.middle c.write_section.result c.if-out-tasks.false c.write_section.ensures.answer c.in_ok-middle.ensures.ok_part c.write_section.ensures.bytes
+    (few_tasks p 64 (omega arith)) cc
