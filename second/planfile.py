@@ -1,4 +1,4 @@
-"""Plan files: the head, the sections and their checks, and the verdict line."""
+"""Plan files: the head, the sections and their checks, writing a job part, and the verdict line."""
 
 from model import Listed, Mesh, Plan, Refused
 
@@ -155,6 +155,34 @@ def load(plan, data):
     in_turn(3, tasks, plan.offer_task)
     in_turn(4, messages, plan.offer_message)
     return len(tasks), len(messages)
+
+
+def bytes_of(n, size):
+    return n.to_bytes(size, "big")
+
+
+def task_record(task):
+    return (
+        bytes_of(task["name"], 2) + bytes_of(task["core"], 1) + b"\0"
+        + b"".join(bytes_of(task[time], 4) for time in ("period", "phase", "width"))
+    )
+
+
+def message_record(message):
+    return (
+        b"".join(bytes_of(message[name], 2) for name in ("name", "source", "destination")) + bytes_of(message["kind"], 1) + b"\0"
+        + b"".join(bytes_of(message[time], 4) for time in ("delay", "width"))
+    )
+
+
+def write(plan, room):
+    """The job part of what is held, each section in ascending names; refused where the room is less than its length."""
+    out = b""
+    for jobs, record in ((plan.tasks, task_record), (plan.messages, message_record)):
+        out += bytes_of(len(jobs), 2) + b"".join(record(job) for _, job in sorted(jobs.items()))
+    if room < len(out):
+        raise Refused(27)
+    return out
 
 
 def verdict(data):

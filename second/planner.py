@@ -8,7 +8,7 @@ import re
 import sys
 
 from model import Listed, Mesh, Plan, Refused
-from planfile import Fault, load, set_listed
+from planfile import Fault, load, set_listed, write
 from shuttle import Shuttle
 
 
@@ -53,6 +53,10 @@ class Session:
     def load(self, data):
         tasks, messages = load(self.plan, data)
         return f"LOADED {tasks} {messages}"
+
+    def write(self, room):
+        part = write(self.plan, room)
+        return f"WRITTEN {len(part)} {part.hex().upper()}"
 
     def slack(self, name):
         return f"SLACK {self.plan.slack(name)}"
@@ -119,6 +123,7 @@ LINES = [
     (b"drop task ", Session.drop_task, numbers(name=16)),
     (b"drop message ", Session.drop_message, numbers(name=16)),
     (b"load ", Session.load, hexadecimal),
+    (b"write ", Session.write, numbers(room=64)),
     (b"slack ", Session.slack, numbers(name=16)),
     (b"holder core ", Session.holder_core, numbers(core=16, instant=64)),
     (b"holder link ", Session.holder_link, numbers(link=16, instant=64)),
