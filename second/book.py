@@ -1,10 +1,14 @@
 """One long script in the making."""
 
-from cases import head, section
+from cases import head, message, section, task
 from model import Listed
 from planner import Session, answer, lines_of
 
 LAST_INSTANT = 2**64 - 1
+LARGEST_ROOM = 2**64 - 1
+
+TASK_FIELDS = ("name", "core", "period", "phase", "width")
+MESSAGE_FIELDS = ("name", "source", "destination", "kind", "delay", "width")
 
 
 def fabric_part(nodes, delay, links, routes):
@@ -24,6 +28,7 @@ class Book:
         self.lines = []
         self.scripts = 0
         self.session = Session(Listed())
+        self.fabric_line = None
 
     @property
     def plan(self):
@@ -39,7 +44,10 @@ class Book:
     def raw(self, line):
         """A line of any bytes; its answer."""
         self.lines.append(line)
-        return answer(self.session, line)
+        answered = answer(self.session, line)
+        if answered.startswith("READY"):
+            self.fabric_line = line
+        return answered
 
     def ask(self, words, *values):
         """A call: its words, then its values; its answer."""
@@ -58,6 +66,39 @@ class Book:
 
     def load(self, part):
         return self.ask("load", part.hex().upper())
+
+    # what is held, written out
+
+    def held_part(self):
+        """The job part of what is held, each section in ascending names, by the generator's own records."""
+        return job_part(
+            [task(*(job[field] for field in TASK_FIELDS)) for _, job in sorted(self.plan.tasks.items())],
+            [message(*(job[field] for field in MESSAGE_FIELDS)) for _, job in sorted(self.plan.messages.items())],
+        )
+
+    def write(self, room):
+        """A write, which gives what the generator expects."""
+        part = self.held_part()
+        expected = f"WRITTEN {len(part)} {part.hex().upper()}" if room >= len(part) else "REFUSED 27 BUFFER"
+        answered = self.ask("write", room)
+        assert answered == expected, f"write {room}: {answered}, expected {expected}"
+
+    def write_around(self):
+        """Writes into a room that is one byte too short, and into one of exactly the length."""
+        length = len(self.held_part())
+        self.write(length - 1)
+        self.write(length)
+
+    def carry_over(self):
+        """A write, then a new plan on the same fabric that loads the bytes and writes the same."""
+        part = self.held_part()
+        counts = len(self.plan.tasks), len(self.plan.messages)
+        self.write(len(part))
+        self.raw(self.fabric_line)
+        loaded = self.load(part)
+        assert loaded == "LOADED {} {}".format(*counts), f"{loaded}, expected {counts}"
+        assert self.held_part() == part
+        self.write(len(part))
 
     # what is held, shown by questions
 

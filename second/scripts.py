@@ -11,6 +11,7 @@ import scripts_fabrics
 import scripts_lines
 import scripts_loads
 import scripts_plans
+import scripts_writes
 from book import Book, fabric_part, job_part
 from cases import WORKED, message, route
 from walks import Walk
@@ -19,6 +20,8 @@ from walks import Walk
 def no_fabric_yet(book):
     book.script("before any fabric line: one node, no link, no hop delay")
     book.text("""
+write 4
+write 3
 holder core 0 0
 holder core 1 0
 holder link 0 0
@@ -32,6 +35,8 @@ slack 1
 offer message 2 1 2 0 1 5
 place message 2 2 1 1 5
 slack 2
+write 67
+write 68
 holder core 0 13
 holder link 0 3
 fabric mesh 9 1 0
@@ -46,6 +51,7 @@ drop message 2
 drop task 1
 drop task 2
 holder core 0 0
+write 4
 """)
 
 
@@ -202,6 +208,13 @@ LISTED_WALKS = [
 ]
 
 
+def shown_and_carried(book):
+    """Questions at the end of a walk, and again in a new plan that has loaded what was written."""
+    book.show_plan(2)
+    book.carry_over()
+    book.show_plan(2)
+
+
 def mesh_walks(book):
     for seed, (numbers, periods, parts, calls) in enumerate(MESH_WALKS, 100):
         columns, rows, delay = numbers
@@ -210,7 +223,7 @@ def mesh_walks(book):
         )
         book.mesh(*numbers)
         Walk(book, seed, periods, parts).run(calls)
-        book.show_plan(2)
+        shown_and_carried(book)
 
 
 def listed_walks(book):
@@ -218,7 +231,7 @@ def listed_walks(book):
         book.script(f"calls by chance on {nodes} listed nodes, periods {min(periods)} to {max(periods)}")
         book.listed(chance_fabric(seed, nodes, extra, share))
         Walk(book, seed, periods, parts).run(calls)
-        book.show_plan(2)
+        shown_and_carried(book)
 
 
 def loading_walks(book):
@@ -226,7 +239,7 @@ def loading_walks(book):
         book.script(f"loads by chance among other calls, periods {min(periods)} to {max(periods)}")
         book.mesh(4, 2, 1)
         Walk(book, seed, periods, parts=16, load=25).run(80)
-        book.show_plan(2)
+        shown_and_carried(book)
 
 
 def main():
@@ -234,6 +247,7 @@ def main():
     for make in (
         no_fabric_yet, two_tasks, mesh_routes, one_core, two_nodes, wrong_readings,
         *scripts_lines.SCRIPTS, *scripts_fabrics.SCRIPTS, *scripts_plans.SCRIPTS, *scripts_loads.SCRIPTS,
+        *scripts_writes.SCRIPTS,
         mesh_walks, listed_walks, loading_walks,
     ):
         make(book)

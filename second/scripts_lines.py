@@ -1,6 +1,6 @@
 """Scripts of lines that are no calls, and of those that only just are."""
 
-from book import LAST_INSTANT, job_part, small_plan
+from book import LARGEST_ROOM, LAST_INSTANT, job_part, small_plan
 from cases import task
 
 # The words of each line of numbers, with numbers that make a call of it and the bits of each.
@@ -12,6 +12,7 @@ FORMS = {
     "place message": ((9, 16), (2, 16), (1, 16), (1, 8), (2, 32)),
     "drop task": ((9, 16),),
     "drop message": ((9, 16),),
+    "write": ((100, 64),),
     "slack": ((1, 16),),
     "holder core": ((0, 16), (5, 64)),
     "holder link": ((0, 16), (5, 64)),
@@ -68,6 +69,14 @@ def long_numbers(book):
     book.ask("holder core", "00000", "0" * 40 + str(LAST_INSTANT + 1))
     book.ask("holder core", 0, 10**19)
     book.ask("holder core", 0, 2 * 10**19)
+    book.ask("write", "0" * 300 + "52")
+    book.ask("write", "0" * 5000 + "51")
+    book.ask("write", "0" * 5000)
+    book.ask("write", "52" + "0" * 300)
+    book.ask("write", "0" * 40 + str(LARGEST_ROOM))
+    book.ask("write", "0" * 40 + str(LARGEST_ROOM + 1))
+    book.ask("write", 10**19)
+    book.ask("write", 2 * 10**19)
 
 
 def other_words(book):
@@ -93,9 +102,12 @@ drop 1
 slack message 1
 fabric ring 4 1
 fabric mesh 2 by 1
-write 100
+writes 100
+write all 100
+write task 100
+write 100 bytes
+write FF
 write
-write 0
 exit
 :
 slack 1: SLACK 6

@@ -2,23 +2,22 @@
 
 import random
 
-from book import LAST_INSTANT, job_part
+from book import LARGEST_ROOM, LAST_INSTANT, MESSAGE_FIELDS, TASK_FIELDS, job_part
 from cases import message, task
-
-TASK_FIELDS = ("name", "core", "period", "phase", "width")
-MESSAGE_FIELDS = ("name", "source", "destination", "kind", "delay", "width")
 
 
 class Walk:
     """Calls by chance on one plan.
 
     Jobs have the given periods, and mostly widths that go into the period as many times as there are parts, or more. The weight of
-    loads is against 65 of all other calls.
+    loads is against 65 of all other calls. Writes come between all of these by
+    choices of their own, one to 30.
     """
 
     def __init__(self, book, seed, periods, parts=8, load=1):
         self.book = book
         self.rng = random.Random(seed)
+        self.writes = random.Random(1000 + seed)
         self.periods = periods
         self.parts = parts
         self.again = []
@@ -30,12 +29,15 @@ class Walk:
         self.acts = [act for act, weight in weights.items() for _ in range(weight)]
 
     def run(self, calls):
-        """So many calls; the first are tasks, so that messages find their ends."""
+        """So many calls, and writes between them; the first are tasks, so that messages find their ends."""
         end = len(self.book.lines) + calls
         for _ in range(8):
             self.rng.choice((self.offer_task, self.place_task))()
         while len(self.book.lines) < end:
             self.rng.choice(self.acts)()
+            if self.writes.randrange(30) == 0:
+                self.write()
+                end += 1
 
     # choices
 
@@ -226,3 +228,11 @@ class Walk:
                 [message(name, *values) for name, values in messages.items()],
             )
         )
+
+    # writes
+
+    def write(self):
+        """Into a room of about the length of the job part."""
+        length = len(self.book.held_part())
+        near = (length, length, length + 1, length + 16, length - 1, max(0, length - 16))
+        self.book.write(self.writes.choice((*near, 2 * length, 4, LARGEST_ROOM)))
