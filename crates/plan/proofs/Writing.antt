@@ -51,6 +51,10 @@ module _ (js : Jobs) where
       let whole : length (part_bytes js) ≡ length tasks + length messages = length-append tasks messages in
       omega (arith, whole, section_length task_form (λ t. refl) js.tasks, section_length message_form (λ m. refl) js.messages)
 
+  -- at most 64 tasks and 128 messages have no more
+  pub part_small : length js.tasks ≤ 64 → length js.messages ≤ 128 → length (part_bytes js) ≤ 3076
+  part_small few few_messages = omega (arith, part_length, few, few_messages)
+
   -- it is longer than the room exactly where the code's sum is
   pub length_tested : (room : ℕ) → too_long js room ≡ ltb room (4 + length js.tasks * 16 + length js.messages * 16)
   length_tested room = ap (ltb room) part_length

@@ -14,7 +14,7 @@ use Rattle.jobs.specs.Rules.{message_refusal, offered, task_refusal}
 use Rattle.promise.specs.Clean.{Clean, Distinct}
 use Rattle.promise.proofs.Lists.{in_without, without_old}
 use Rattle.replay.specs.declared.calls.Answer.TheVariants as answer
-use Rattle.replay.specs.Calls.{Ask, ask, asking_core, asking_link, asking_slack, dropping_message, dropping_task, loading, offering_message, offering_task, placing_message, placing_task}
+use Rattle.replay.specs.Calls.{Ask, ask, asking_core, asking_link, asking_slack, dropping_message, dropping_task, loading, offering_message, offering_task, placing_message, placing_task, writing}
 use Rattle.replay.specs.Promise.{After, Less, More}
 use Rattle.replay.proofs.Joins.{load_left, more}
 
@@ -66,3 +66,4 @@ after g js c (loading part) = (refl, load_left g js part)
 after g js c (asking_slack n) = refl
 after g js c (asking_core x n) = refl
 after g js c (asking_link l n) = refl
+after g js c (writing room) = refl

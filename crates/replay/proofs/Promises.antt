@@ -1,7 +1,8 @@
 -- The main promise: by induction over the list, since every call keeps a clean plan clean.
-use Rattle.std.proofs.Common.{◌≡◌, ℕ, zero, suc, ◌<◌, ◌≤◌, List, [], ◌∷◌, take, Some, Ok, Err, Option, Result, sym, refl, ap, subst, ⊎_elim}
+use Rattle.std.proofs.Common.{◌≡◌, ℕ, zero, suc, ◌<◌, ◌≤◌, Bool, true, false, if◌then◌else◌, List, [], ◌∷◌, take, Some, Ok, Err, Option, Result, sym, refl, ap, subst, ⊎_elim, arith}
 use Rattle.std.specs.List.{slice_get}
 use Rattle.std.proofs.lemmas.Bool.{cases_lt}
+use Rattle.std.proofs.lemmas.Bool.Decides.{nat_tests}
 use Rattle.fabric.specs.Network.{Lawful}
 use Rattle.records.specs.declared.record.Task.{Task}
 use Rattle.records.specs.declared.record.Message.{Message}
@@ -13,7 +14,9 @@ use Rattle.jobs.specs.Jobs.{Jobs, Setting, nothing, with_task}
 use Rattle.jobs.specs.Rules.{offer_message, offer_task, task_refusal}
 use Rattle.jobs.specs.Slacks.{slack}
 use Rattle.plan.specs.Loading.{job_part, load, load_tasks}
+use Rattle.plan.specs.Writing.{part_bytes, too_long, write}
 use Rattle.plan.specs.declared.fault.LayoutFault.{LayoutFault}
+use Rattle.refusals.specs.Lines.{too_short}
 use Rattle.promise.specs.Canonical.{Canonical}
 use Rattle.promise.specs.Clean.{Clean, In}
 use Rattle.promise.specs.Questions.{CoreTold, LinkTold}
@@ -30,9 +33,8 @@ use Rattle.promise.proofs.Same.{same_bytes}
 use Rattle.promise.proofs.Smallest.{message_smallest, task_smallest}
 use Rattle.replay.proofs.Afters.{after}
 use Rattle.replay.proofs.Loads.{load_told}
-use Rattle.replay.specs.declared.calls.Answer.{Answer}
-use Rattle.replay.specs.Calls.{Ask, answers, ask, asking_core, asking_link, asking_slack, dropping_message, dropping_task, held, loading, offering_message, offering_task, placing_message, placing_task}
-use Rattle.replay.specs.Promise.{After, Exact, Holds, Promise, Told, Try, if_taken, load_tries, message_try, part_tries, task_try, turn_tries}
+use Rattle.replay.specs.Calls.{Ask, Said, answers, ask, asking_core, asking_link, asking_slack, dropping_message, dropping_task, held, loading, offering_message, offering_task, placing_message, placing_task, writing}
+use Rattle.replay.specs.Promise.{After, Exact, Holds, Promise, Told, Try, WriteTold, if_taken, load_tries, message_try, part_tries, task_try, turn_tries}
 
 -- a new plan holds nothing, so nothing in it is amiss
 pub new_clean : (g : Setting) → Clean g nothing
@@ -59,6 +61,7 @@ module _ (g : Setting) (most : ℕ) (few : most ≤ 64) (laws : Lawful most g.ne
   ask_keeps js (asking_slack n) c = c
   ask_keeps js (asking_core x n) c = c
   ask_keeps js (asking_link l n) c = c
+  ask_keeps js (writing room) c = c
 
   pub held_keeps : (js : Jobs) (asks : List Ask) → Clean g js → Clean g (held g js asks)
   held_keeps js [] c = c
@@ -123,10 +126,15 @@ module _ (g : Setting) (most : ℕ) (few : most ≤ 64) (laws : Lawful most g.ne
   told js c (asking_slack n) = (slack g js n, refl, slack_told g most few laws js c n)
   told js c (asking_core x n) = (core_holder g js x n, refl, core_holds js x n c (core_holder g js x n) refl)
   told js c (asking_link l n) = (link_holder g js l n, refl, link_holds js l n c (link_holder g js l n) refl)
+  told js c (writing room) = (write js room, refl, go (too_long js room) refl)
+    where
+      go : (b : Bool) → b ≡ too_long js room → WriteTold js room (if b then Err too_short else Ok (part_bytes js))
+      go true e = grind (arith, nat_tests, e)
+      go false e = (refl, grind (arith, nat_tests, e))
 
   -- each answer of a list is that of its call, after the calls before it, and so is what is held then
   calls : (js : Jobs) → Clean g js → (asks : List Ask) (i : ℕ) (a : Ask) → slice_get asks i ≡ Some a
-      → (r : Answer) × (slice_get (answers g js asks) i ≡ Some r) × Told g (held g js (take i asks)) a r × After g (held g js (take i asks)) a r (held g js (take (suc i) asks))
+      → (r : Said) × (slice_get (answers g js asks) i ≡ Some r) × Told g (held g js (take i asks)) a r × After g (held g js (take i asks)) a r (held g js (take (suc i) asks))
   calls js c [] i a e = cc
   calls js c (b ∷ rest) zero a e =
       let same : b ≡ a = cc in
@@ -145,6 +153,7 @@ module _ (g : Setting) (most : ℕ) (few : most ≤ 64) (laws : Lawful most g.ne
   ask_canonical js (asking_slack n) c = c
   ask_canonical js (asking_core x n) c = c
   ask_canonical js (asking_link l n) c = c
+  ask_canonical js (writing room) c = c
 
   held_canonical : (js : Jobs) (asks : List Ask) → Canonical js → Canonical (held g js asks)
   held_canonical js [] c = c

@@ -8,6 +8,7 @@ use Rattle.std.specs.List.{slice_get}
 use Rattle.fabric.specs.Network.{Lawful}
 use Rattle.records.specs.declared.record.Task.{Task}
 use Rattle.records.specs.declared.record.Message.{Message}
+use Rattle.refusals.specs.declared.refusal.BufferFault.{BufferFault}
 use Rattle.refusals.specs.declared.refusal.Counts.{Counts}
 use Rattle.jobs.specs.declared.fault.TaskFault.{TaskFault}
 use Rattle.jobs.specs.declared.fault.MessageFault.{MessageFault}
@@ -31,9 +32,8 @@ use Rattle.promise.specs.Clean.{Clean, In}
 use Rattle.promise.specs.Droppings.{MessageDropped, TaskDropped}
 use Rattle.promise.specs.Offers.{EarlyMessage, EarlyTask, MessageAnswer, MessageFits, MessagePassed, Smallest, TaskAnswer, TaskFits, TaskPassed}
 use Rattle.promise.specs.Questions.{CoreTold, LinkTold, SlackTold}
-use Rattle.replay.specs.declared.calls.Answer.{Answer}
 use Rattle.replay.specs.declared.calls.Answer.TheVariants as answer
-use Rattle.replay.specs.Calls.{Ask, answers, asking_core, asking_link, asking_slack, dropping_message, dropping_task, held, loading, offering_message, offering_task, placing_message, placing_task}
+use Rattle.replay.specs.Calls.{Ask, Said, answers, asking_core, asking_link, asking_slack, dropping_message, dropping_task, held, loading, offering_message, offering_task, placing_message, placing_task, writing}
 
 -- ---- the offers of a load
 
@@ -104,8 +104,13 @@ pub record MessagePlacing (g : Setting) (js : Jobs) (m : OpenMessage) (r : Resul
   pub early : ((e : MessageFault) × (r ≡ Err (placing.Offer e)) × EarlyMessage e) ↔ ((s d : Task) (route : List ℕ) → MessagePassed g js (message_at m 0) s d route → ⊥)
   pub past : (s d : Task) (route : List ℕ) → MessagePassed g js (message_at m 0) s d route → Smallest (MessageFits g js m s) placing.NoFit r
 
+-- a write gives the whole job part, which has the room, and is refused where it has not
+abbrev pub WriteTold : Jobs → ℕ → Result (List ℕ) BufferFault → Type 0
+WriteTold js room (Ok bytes) = (bytes ≡ part_bytes js) × (length bytes ≤ room)
+WriteTold js room (Err e) = room < length (part_bytes js)
+
 -- what is promised of the answer r to a call, with the jobs held before it
-abbrev pub Told : Setting → Jobs → Ask → Answer → Type 0
+abbrev pub Told : Setting → Jobs → Ask → Said → Type 0
 Told g js (offering_task t) r = (x : Result (Unit {0}) TaskFault) × (r ≡ answer.TaskOffered x) × Exact g (task_try js t x)
 Told g js (offering_message m) r = (x : Result (Unit {0}) MessageFault) × (r ≡ answer.MessageOffered x) × Exact g (message_try js m x)
 Told g js (placing_task t) r = (x : Result ℕ (PlacingFault TaskFault)) × (r ≡ answer.TaskPlaced x) × TaskPlacing g js t x
@@ -116,6 +121,7 @@ Told g js (loading part) r = (x : Result Counts LoadFault) × (r ≡ answer.Load
 Told g js (asking_slack n) r = (x : Result ℤ DropFault) × (r ≡ answer.Slack x) × SlackTold g js n x
 Told g js (asking_core c n) r = (x : Result (Option (ℕ × ℕ)) PlaceFault) × (r ≡ answer.Holder x) × Holds (CoreTold js c n) g.network.nodes c x
 Told g js (asking_link l n) r = (x : Result (Option (ℕ × ℕ)) PlaceFault) × (r ≡ answer.Holder x) × Holds (LinkTold g js l n) g.network.links l x
+Told g js (writing room) r = (x : Result (List ℕ) BufferFault) × (r ≡ answer.Written x) × WriteTold js room x
 
 -- ---- what is held after
 
@@ -143,7 +149,7 @@ abbrev pub LoadLeft : List Try → Jobs → Jobs → Type 0
 LoadLeft ys js after = Joined (TakenTask ys) js.tasks after.tasks × Joined (TakenMessage ys) js.messages after.messages
 
 -- by the answer: a taken task or message joins, a dropped one leaves, those of a load's taken offers join, and nothing else changes
-abbrev pub After : Setting → Jobs → Ask → Answer → Jobs → Type 0
+abbrev pub After : Setting → Jobs → Ask → Said → Jobs → Type 0
 After g js (offering_task t) r after = (r ≡ answer.TaskOffered (Ok tt) → More t js.tasks after.tasks × (after.messages ≡ js.messages)) × ((e : TaskFault) → r ≡ answer.TaskOffered (Err e) → after ≡ js)
 After g js (offering_message m) r after = (r ≡ answer.MessageOffered (Ok tt) → More m js.messages after.messages × (after.tasks ≡ js.tasks)) × ((e : MessageFault) → r ≡ answer.MessageOffered (Err e) → after ≡ js)
 After g js (placing_task t) r after = ((v : ℕ) → r ≡ answer.TaskPlaced (Ok v) → More (task_at t v) js.tasks after.tasks × (after.messages ≡ js.messages)) × ((e : PlacingFault TaskFault) → r ≡ answer.TaskPlaced (Err e) → after ≡ js)
@@ -154,6 +160,7 @@ After g js (loading part) r after = (after ≡ (load g js part).1) × LoadLeft (
 After g js (asking_slack n) r after = after ≡ js
 After g js (asking_core c n) r after = after ≡ js
 After g js (asking_link l n) r after = after ≡ js
+After g js (writing room) r after = after ≡ js
 
 -- ---- lists of calls
 
@@ -167,7 +174,7 @@ LoadsBack g js = ShortNames js → load g nothing (part_bytes js) ≡ (Ok (count
 pub record Promise (g : Setting) (asks : List Ask) : Type 0 where
   pub clean : Clean g (held g nothing asks)
   pub calls : (i : ℕ) (a : Ask) → slice_get asks i ≡ Some a
-      → (r : Answer) × (slice_get (answers g nothing asks) i ≡ Some r) × Told g (held g nothing (take i asks)) a r
+      → (r : Said) × (slice_get (answers g nothing asks) i ≡ Some r) × Told g (held g nothing (take i asks)) a r
       × After g (held g nothing (take i asks)) a r (held g nothing (take (suc i) asks))
   pub canonical : Canonical (held g nothing asks)
   pub back : LoadsBack g (held g nothing asks)

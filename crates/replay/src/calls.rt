@@ -3,7 +3,7 @@ use jobs::fault::{DropFault, MessageFault, PlaceFault, PlacingFault, TaskFault};
 use jobs::open::{OpenMessage, OpenTask};
 use plan::fault::LoadFault;
 use records::record::{Message, Task};
-use refusals::refusal::Counts;
+use refusals::refusal::{BufferFault, Counts};
 
 #[derive(Clone, Copy)]
 pub enum Call<'a> {
@@ -20,10 +20,13 @@ pub enum Call<'a> {
     Slack(u16),
     CoreHolder { core: u16, instant: u64 },
     LinkHolder { link: u16, instant: u64 },
+    // the job part, into so many bytes
+    Write { room: usize },
 }
 
+// W is what a taken write gives: the length, where the bytes stand in a lent page, or the bytes.
 #[derive(PartialEq, Eq, Debug, Drop)]
-pub enum Answer {
+pub enum Answer<W> {
     TaskOffered(Result<(), TaskFault>),
     MessageOffered(Result<(), MessageFault>),
     // the phase
@@ -37,4 +40,5 @@ pub enum Answer {
     // the name and the run
     // a name and a run, a plain pair: only the text of an answer takes it apart
     Holder(Result<Option<(u16, u64)>, PlaceFault>),
+    Written(Result<W, BufferFault>),
 }

@@ -5,12 +5,14 @@ ghost use Rattle.jobs.specs.Jobs.{nothing, over};
 ghost use Rattle.plan.specs.Held.{jobs, setting};
 ghost use Rattle.promise.specs.Canonical.{Canonical};
 ghost use Rattle.promise.specs.Clean.{Clean};
-ghost use Rattle.replay.specs.Calls.{answer_told, answers, ask, asked, held, stays};
+ghost use Rattle.refusals.specs.Written.{written};
+ghost use Rattle.replay.specs.Calls.{answer_told, answers, ask, asked, bytes_given, giving, held, read_off, stays};
 ghost use Rattle.replay.specs.Promise.{After, MainPromise, Promise, Told};
-ghost use Rattle.std.specs.Prelude.{◌≡◌, true, map, IfOk};
+ghost use Rattle.std.specs.Prelude.{◌≡◌, true, length, map, vec_items, IfOk};
 
 use fabric::Fabric;
 use plan::Plan;
+use plan::plan::LONGEST_PART;
 use std::alloc::{AllocError, Global};
 
 pub mod calls;
@@ -18,8 +20,13 @@ pub mod calls;
 use calls::{Answer, Call};
 
 // The method of the plan that a call asks for. A list of calls is read and kept, so a call is a value and no closure.
-fn dispatch<F: Fabric>(plan: &mut Plan<'_, F>, call: &Call<'_>) -> Answer
-    ensures answer { result ≡ (ask (setting F.Fabric.meaning plan.old) (jobs plan.old) (asked call.now)).0 }
+fn dispatch<F: Fabric>(
+    plan: &mut Plan<'_, F>,
+    call: &Call<'_>,
+    page: &mut [u8; LONGEST_PART],
+) -> Answer<usize>
+    ensures answer { result ≡ giving length (ask (setting F.Fabric.meaning plan.old) (jobs plan.old) (asked call.now)).0 }
+    ensures page { page.new ≡ written page.old 0 (bytes_given (ask (setting F.Fabric.meaning plan.old) (jobs plan.old) (asked call.now)).0) }
     ensures after { jobs plan.new ≡ (ask (setting F.Fabric.meaning plan.old) (jobs plan.old) (asked call.now)).1 }
     ensures fabric { plan.new.fabric ≡ plan.old.fabric }
     ensures unchanged { stays result ≡ true → plan.new ≡ plan.old }
@@ -35,23 +42,49 @@ fn dispatch<F: Fabric>(plan: &mut Plan<'_, F>, call: &Call<'_>) -> Answer
         Call::Slack(name) => Answer::Slack(plan.slack(name)),
         Call::CoreHolder { core, instant } => Answer::Holder(plan.core_holder(core, instant)),
         Call::LinkHolder { link, instant } => Answer::Holder(plan.link_holder(link, instant)),
+        Call::Write { room } => Answer::Written(plan.write(&mut page[..room.min(LONGEST_PART)])),
     }
 }
 
-// Runs one call on a plan. It needs no memory but the plan's. A clean plan stays clean, the call is answered as promised, and what is
-// held then is what its answer says.
-pub fn step<F: Fabric>(plan: &mut Plan<'_, F>, call: &Call<'_>) -> Answer
-    ensures answer { result ≡ (ask (setting F.Fabric.meaning plan.old) (jobs plan.old) (asked call.now)).0 }
+// Runs one call on a plan. It needs no memory but the plan's and the page, to the start of which a write goes. A clean plan stays
+// clean, the call is answered as promised, and what is held then is what its answer says.
+pub fn step<F: Fabric>(
+    plan: &mut Plan<'_, F>,
+    call: &Call<'_>,
+    page: &mut [u8; LONGEST_PART],
+) -> Answer<usize>
+    ensures answer { result ≡ giving length (ask (setting F.Fabric.meaning plan.old) (jobs plan.old) (asked call.now)).0 }
+    ensures page { page.new ≡ written page.old 0 (bytes_given (ask (setting F.Fabric.meaning plan.old) (jobs plan.old) (asked call.now)).0) }
     ensures after { jobs plan.new ≡ (ask (setting F.Fabric.meaning plan.old) (jobs plan.old) (asked call.now)).1 }
     ensures fabric { plan.new.fabric ≡ plan.old.fabric }
     ensures unchanged { stays result ≡ true → plan.new ≡ plan.old }
     ensures keeps { Clean (setting F.Fabric.meaning plan.old) (jobs plan.old) → Clean (setting F.Fabric.meaning plan.old) (jobs plan.new) }
-    ensures told { Clean (setting F.Fabric.meaning plan.old) (jobs plan.old) → Told (setting F.Fabric.meaning plan.old) (jobs plan.old) (asked call.now) result }
+    ensures told { Clean (setting F.Fabric.meaning plan.old) (jobs plan.old) → Told (setting F.Fabric.meaning plan.old) (jobs plan.old) (asked call.now) (read_off page.new result) }
     ensures numbers { answer_told result ≡ answer_told (ask (setting F.Fabric.meaning plan.old) (jobs plan.old) (asked call.now)).0 }
-    ensures left { Clean (setting F.Fabric.meaning plan.old) (jobs plan.old) → After (setting F.Fabric.meaning plan.old) (jobs plan.old) (asked call.now) result (jobs plan.new) }
+    ensures left { Clean (setting F.Fabric.meaning plan.old) (jobs plan.old) → After (setting F.Fabric.meaning plan.old) (jobs plan.old) (asked call.now) (read_off page.new result) (jobs plan.new) }
     ensures canonical { Canonical (jobs plan.old) → Canonical (jobs plan.new) }
 {
-    dispatch(plan, call)
+    dispatch(plan, call, page)
+}
+
+// The answer with the bytes of its own that a write left on the page.
+fn owned(heap: Global, answer: Answer<usize>, page: &[u8]) -> Result<Answer<Vec<u8>>, AllocError>
+    ensures { IfOk result (λ r. giving vec_items r ≡ read_off page.now answer) }
+{
+    Ok(match answer {
+        Answer::TaskOffered(r) => Answer::TaskOffered(r),
+        Answer::MessageOffered(r) => Answer::MessageOffered(r),
+        Answer::TaskPlaced(r) => Answer::TaskPlaced(r),
+        Answer::MessagePlaced(r) => Answer::MessagePlaced(r),
+        Answer::Dropped(r) => Answer::Dropped(r),
+        Answer::Loaded(r) => Answer::Loaded(r),
+        Answer::Slack(r) => Answer::Slack(r),
+        Answer::Holder(r) => Answer::Holder(r),
+        Answer::Written(Ok(length)) => Answer::Written(Ok(page[..length.min(page.len())].to_vec(
+            heap,
+        )?)),
+        Answer::Written(Err(fault)) => Answer::Written(Err(fault)),
+    })
 }
 
 // A new plan over the fabric after a list of calls, and what they answered.
@@ -59,8 +92,8 @@ pub fn replay<'f, F: Fabric>(
     heap: Global,
     fabric: &'f F,
     calls: &[Call<'_>],
-) -> Result<(Plan<'f, F>, Vec<Answer>), AllocError>
-    ensures answers { IfOk result (λ p. p.1.items ≡ answers (over F.Fabric.meaning fabric.now) nothing (map asked calls.now)) }
+) -> Result<(Plan<'f, F>, Vec<Answer<Vec<u8>>>), AllocError>
+    ensures answers { IfOk result (λ p. map (giving vec_items) p.1.items ≡ answers (over F.Fabric.meaning fabric.now) nothing (map asked calls.now)) }
     ensures numbers { IfOk result (λ p. map answer_told p.1.items ≡ map answer_told (answers (over F.Fabric.meaning fabric.now) nothing (map asked calls.now))) }
     ensures held { IfOk result (λ p. jobs p.0 ≡ held (over F.Fabric.meaning fabric.now) nothing (map asked calls.now)) }
     ensures fabric { IfOk result (λ p. setting F.Fabric.meaning p.0 ≡ over F.Fabric.meaning fabric.now) }
@@ -69,9 +102,12 @@ pub fn replay<'f, F: Fabric>(
 {
     let mut answers = Vec::new(heap);
     let mut plan = Plan::new(fabric);
+    let mut page = [0; LONGEST_PART];
     // a loop, since each call runs on the plan that the one before left, and a push may find no memory
     for call in calls {
-        answers.push(step(&mut plan, call))?;
+        let told = step(&mut plan, call, &mut page);
+        let answer = owned(heap, told, &page)?;
+        answers.push(answer)?;
     }
     Ok((plan, answers))
 }
