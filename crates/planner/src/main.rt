@@ -33,7 +33,7 @@ fn begins(line: &Line) -> bool {
 }
 
 // What the calls answer between two taken fabrics, the first of which is the first line; before any, the fabric is a single node.
-fn answers_of(heap: Global, lines: &[Line]) -> Result<Vec<Answer>, AllocError> {
+fn answers_of(heap: Global, lines: &[Line]) -> Result<Vec<Answer<Vec<u8>>>, AllocError> {
     let mut fabric = Listed::new();
     match lines.first() {
         Some(Line::Mesh { x, y, delay }) => {

@@ -1,3 +1,4 @@
 mod Texts
 mod ReadBack
 mod Runs
+mod Hexes

@@ -9,7 +9,7 @@ use Rattle.std.specs.Char.{digit_value}
 use Rattle.std.specs.Fmt.{digit_glyph}
 use Rattle.std.specs.List.{AllByRecursion}
 use Rattle.std.specs.Str.{all_ascii_digits}
-use Rattle.replay.specs.Calls.{offering_task, offering_message, placing_task, placing_message, dropping_task, dropping_message, loading, asking_slack, asking_core, asking_link}
+use Rattle.replay.specs.Calls.{offering_task, offering_message, placing_task, placing_message, dropping_task, dropping_message, loading, asking_slack, asking_core, asking_link, writing}
 use Rattle.script.specs.Fields.{field, number, numeral, then, unhexed, word_length}
 use Rattle.script.specs.Forms.{most}
 use Rattle.script.specs.Lines.{hex, Byte, CallsReadBack, MeshesReadBack, ListedReadBack}
@@ -115,6 +115,9 @@ calls_read_back (asking_link link instant) h =
     says calling
     (step _ _ (field_back (most 16) link _ (lit< tt) (omega (arith, h.0)))
     (step _ _ (number_back (most 64) instant (lit< tt) (omega (arith, h.1))) refl))
+calls_read_back (writing room) h =
+    says calling
+    (step _ _ (number_back (most 64) room (lit< tt) (omega (arith, h))) refl)
 
 pub meshes_read_back : MeshesReadBack
 meshes_read_back x y delay hx hy hd =

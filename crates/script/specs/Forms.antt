@@ -1,6 +1,6 @@
 -- What stands after the first words of a line, form by form: numbers of so many bits, between single spaces. Assumes nothing.
 use Rattle.std.specs.Prelude.{ℕ, ◌-◌, ◌^◌, List, Some, None, Option}
-use Rattle.replay.specs.Calls.{Ask, offering_task, offering_message, placing_task, placing_message, dropping_task, dropping_message, asking_slack, asking_core, asking_link, asked}
+use Rattle.replay.specs.Calls.{Ask, offering_task, offering_message, placing_task, placing_message, dropping_task, dropping_message, asking_slack, asking_core, asking_link, writing, asked}
 use Rattle.replay.specs.declared.calls.Call.{Call}
 use Rattle.script.specs.Fields.{field, number, then}
 
@@ -72,6 +72,9 @@ holder_link text =
     then (field (most 16) text) (λ link.
     then (number (most 64) link.1) (λ instant.
     Some (asking_link link.0 instant)))
+
+abbrev pub write : List ℕ → Option Ask
+write text = then (number (most 64) text) (λ room. Some (writing room))
 
 -- the call that a value may hold, by its arguments
 abbrev pub asked_of : Option Call → Option Ask

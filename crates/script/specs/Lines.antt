@@ -6,7 +6,7 @@
 use Rattle.std.specs.Prelude.{◌≡◌, ℕ, ◌/◌, ◌%◌, ◌^◌, ◌<◌, true, List, [], ◌∷◌, ◌++◌, codes, decimal}
 use Rattle.std.specs.Fmt.{digit_glyph}
 use Rattle.std.specs.List.{AllByRecursion}
-use Rattle.replay.specs.Calls.{Ask, offering_task, offering_message, placing_task, placing_message, dropping_task, dropping_message, loading, asking_slack, asking_core, asking_link}
+use Rattle.replay.specs.Calls.{Ask, offering_task, offering_message, placing_task, placing_message, dropping_task, dropping_message, loading, asking_slack, asking_core, asking_link, writing}
 use Rattle.script.specs.Readings.{read_line, mesh_fabric, listed_fabric, calling}
 
 -- two upper-case hexadecimal digits to a byte
@@ -30,6 +30,7 @@ line_of (loading part) = codes "load " ++ hex part
 line_of (asking_slack name) = codes "slack " ++ decimal name
 line_of (asking_core core instant) = codes "holder core " ++ spaced core (instant ∷ [])
 line_of (asking_link link instant) = codes "holder link " ++ spaced link (instant ∷ [])
+line_of (writing room) = codes "write " ++ decimal room
 
 abbrev pub Byte : ℕ → Type 0
 Byte n = n < 2 ^ 8
@@ -45,6 +46,7 @@ Fits (loading part) = AllByRecursion Byte part
 Fits (asking_slack name) = name < 2 ^ 16
 Fits (asking_core core instant) = (core < 2 ^ 16) × (instant < 2 ^ 64)
 Fits (asking_link link instant) = (link < 2 ^ 16) × (instant < 2 ^ 64)
+Fits (writing room) = room < 2 ^ 64
 
 -- every call's own line reads as that call
 abbrev pub CallsReadBack : Type 0

@@ -45,7 +45,8 @@ call_line text =
     (on (codes "slack ") form.slack_of text
     (on (codes "holder core ") form.holder_core text
     (on (codes "holder link ") form.holder_link text
-    None))))))))
+    (on (codes "write ") form.write text
+    None)))))))))
 
 -- what is there, or that the line is unread
 abbrev pub or_unread : {A : Type 0} → (A → Reading) → Option A → Reading

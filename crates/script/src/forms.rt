@@ -1,5 +1,5 @@
 // What stands after the first words of a line, form by form. The fields are read one by one, since each has its own type.
-ghost use Rattle.script.specs.Forms.{asked_of, drop_message, drop_task, holder_core, holder_link, mesh, offer_message, offer_task, place_message, place_task, slack_of};
+ghost use Rattle.script.specs.Forms.{asked_of, drop_message, drop_task, holder_core, holder_link, mesh, offer_message, offer_task, place_message, place_task, slack_of, write};
 ghost use Rattle.std.specs.Prelude.{◌≡◌};
 
 use crate::text::{field, number};
@@ -117,4 +117,14 @@ pub(crate) fn holder_link(text: &[u8]) -> Option<Call<'static>>
     let (link, text) = field(text)?;
     let instant = number(text)?;
     Some(Call::LinkHolder { link, instant })
+}
+
+// The room is a length, which has 64 bits on the machines that the kit knows.
+pub(crate) fn write(text: &[u8]) -> Option<Call<'static>>
+    ensures { asked_of result ≡ write text.now }
+{
+    let room: u64 = number(text)?;
+    Some(Call::Write {
+        room: room as usize,
+    })
 }

@@ -7,7 +7,7 @@ ghost use Rattle.std.specs.Prelude.{◌≡◌, map, IfOk};
 use crate::bytes::unhexed;
 use crate::forms::{
     drop_message, drop_task, holder_core, holder_link, mesh, offer_message, offer_task,
-    place_message, place_task, slack_of,
+    place_message, place_task, slack_of, write,
 };
 use crate::line::Line;
 use crate::text::after;
@@ -45,6 +45,9 @@ fn read_call(text: &[u8]) -> Option<Call<'static>>
     }
     if let Some(rest) = after(b"holder link ", text) {
         return holder_link(rest);
+    }
+    if let Some(rest) = after(b"write ", text) {
+        return write(rest);
     }
     None
 }

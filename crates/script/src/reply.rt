@@ -13,5 +13,5 @@ pub enum Reply {
     // a refused listed fabric
     Told(Told),
     // of a call
-    Answer(Answer),
+    Answer(Answer<Vec<u8>>),
 }

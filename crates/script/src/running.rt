@@ -1,9 +1,9 @@
 // Running the calls of lines on a new plan.
 ghost use Rattle.jobs.specs.Jobs.{nothing, over};
-ghost use Rattle.replay.specs.Calls.{answers, asked};
+ghost use Rattle.replay.specs.Calls.{answers, asked, giving};
 ghost use Rattle.script.specs.Readings.{said};
 ghost use Rattle.script.specs.Running.{asks};
-ghost use Rattle.std.specs.Prelude.{◌≡◌, map, IfOk};
+ghost use Rattle.std.specs.Prelude.{◌≡◌, map, vec_items, IfOk};
 
 use crate::line::Line;
 use fabric::Fabric;
@@ -32,8 +32,8 @@ pub fn run_lines<F: Fabric>(
     heap: Global,
     fabric: &F,
     lines: &[Line],
-) -> Result<Vec<Answer>, AllocError>
-    ensures { IfOk result (λ v. v.items ≡ answers (over F.Fabric.meaning fabric.now) nothing (asks (map said lines.now))) }
+) -> Result<Vec<Answer<Vec<u8>>>, AllocError>
+    ensures { IfOk result (λ v. map (giving vec_items) v.items ≡ answers (over F.Fabric.meaning fabric.now) nothing (asks (map said lines.now))) }
 {
     let calls = calls_of(heap, lines)?;
     let (_, answers) = replay(heap, fabric, &calls)?;

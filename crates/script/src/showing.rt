@@ -1,6 +1,8 @@
 // Showing a reply as text.
+ghost use Rattle.replay.specs.Calls.{giving};
+ghost use Rattle.script.specs.Lines.{hex};
 ghost use Rattle.script.specs.Replies.{ToldAsVerdicts, answer_text, reply_text};
-ghost use Rattle.std.specs.Prelude.{◌≡◌, ◌++◌, codes, Some, IfOk, MatchResult};
+ghost use Rattle.std.specs.Prelude.{◌≡◌, ◌++◌, codes, vec_items, Some, IfOk, MatchResult};
 
 use crate::reply::Reply;
 use refusals::refusal::{Refusal, Told};
@@ -8,34 +10,54 @@ use replay::calls::Answer;
 use std::alloc::{AllocError, Global};
 use std::fmt;
 
+// Bytes in upper-case hexadecimal.
+#[derive(Drop)]
+struct Hex<'a> {
+    bytes: &'a [u8],
+}
+
+impl fmt::Display for Hex<'_> {
+    ghost output = { λ h. Some (hex h.bytes.now) };
+
+    // a loop, since what is written goes to the formatter piece by piece
+    fn fmt<W: fmt::Write>(&self, f: &mut fmt::Formatter<W>) -> fmt::Result {
+        for byte in self.bytes {
+            write!(f, "{:X}{:X}", byte / 16, byte % 16)?;
+        }
+        Ok(())
+    }
+}
+
 // What a call answers, as text.
 #[derive(Drop)]
 struct Shown<'a> {
-    answer: &'a Answer,
+    answer: &'a Answer<Vec<u8>>,
 }
 
 impl fmt::Display for Shown<'_> {
-    ghost output = { λ s. Some (answer_text s.answer.now) };
+    ghost output = { λ s. Some (answer_text (giving vec_items s.answer.now)) };
 
     fn fmt<W: fmt::Write>(&self, f: &mut fmt::Formatter<W>) -> fmt::Result {
-        match *self.answer {
+        match self.answer {
             Answer::TaskOffered(Ok(())) | Answer::MessageOffered(Ok(())) => write!(f, "TAKEN"),
-            Answer::TaskOffered(Err(fault)) => write!(f, "{}", Refusal::from(fault)),
-            Answer::MessageOffered(Err(fault)) => write!(f, "{}", Refusal::from(fault)),
+            Answer::TaskOffered(Err(fault)) => write!(f, "{}", Refusal::from(*fault)),
+            Answer::MessageOffered(Err(fault)) => write!(f, "{}", Refusal::from(*fault)),
             Answer::TaskPlaced(Ok(phase)) => write!(f, "PLACED {phase}"),
-            Answer::TaskPlaced(Err(fault)) => write!(f, "{}", Refusal::from(fault)),
+            Answer::TaskPlaced(Err(fault)) => write!(f, "{}", Refusal::from(*fault)),
             Answer::MessagePlaced(Ok(delay)) => write!(f, "PLACED {delay}"),
-            Answer::MessagePlaced(Err(fault)) => write!(f, "{}", Refusal::from(fault)),
+            Answer::MessagePlaced(Err(fault)) => write!(f, "{}", Refusal::from(*fault)),
             Answer::Dropped(Ok(())) => write!(f, "DROPPED"),
-            Answer::Dropped(Err(fault)) => write!(f, "{}", Refusal::from(fault)),
+            Answer::Dropped(Err(fault)) => write!(f, "{}", Refusal::from(*fault)),
             Answer::Loaded(Ok(counts)) => write!(f, "LOADED {} {}", counts.tasks, counts.messages),
-            Answer::Loaded(Err(fault)) => write!(f, "{}", Told::from(fault)),
+            Answer::Loaded(Err(fault)) => write!(f, "{}", Told::from(*fault)),
             Answer::Slack(Ok(least)) => write!(f, "SLACK {least}"),
-            Answer::Slack(Err(fault)) => write!(f, "{}", Refusal::from(fault)),
+            Answer::Slack(Err(fault)) => write!(f, "{}", Refusal::from(*fault)),
             // a holder is told as plain numbers, a name and a run
             Answer::Holder(Ok(Some((name, run)))) => write!(f, "HELD {name} {run}"),
             Answer::Holder(Ok(None)) => write!(f, "FREE"),
-            Answer::Holder(Err(fault)) => write!(f, "{}", Refusal::from(fault)),
+            Answer::Holder(Err(fault)) => write!(f, "{}", Refusal::from(*fault)),
+            Answer::Written(Ok(bytes)) => write!(f, "WRITTEN {} {}", bytes.len(), Hex { bytes }),
+            Answer::Written(Err(fault)) => write!(f, "{}", Refusal::from(*fault)),
         }
     }
 }
