@@ -19,5 +19,6 @@ pub mod Same
 pub mod Turns
 pub mod Reading
 pub mod Round
+pub mod Short
 pub mod Early
 pub mod Droppings
