@@ -30,9 +30,11 @@ use Rattle.promise.proofs.Early.{message_answer, message_place_early, task_answe
 use Rattle.promise.proofs.Questions.{core_refused, core_told, link_refused, link_told, slack_told}
 use Rattle.promise.proofs.Round.{round_trip}
 use Rattle.promise.proofs.Same.{same_bytes}
+use Rattle.promise.proofs.Short.{nothing_short}
 use Rattle.promise.proofs.Smallest.{message_smallest, task_smallest}
 use Rattle.replay.proofs.Afters.{after}
 use Rattle.replay.proofs.Loads.{load_told}
+use Rattle.replay.proofs.Shorts.{held_short}
 use Rattle.replay.specs.Calls.{Ask, Said, answers, ask, asking_core, asking_link, asking_slack, dropping_message, dropping_task, held, loading, offering_message, offering_task, placing_message, placing_task, writing}
 use Rattle.replay.specs.Promise.{After, Exact, Holds, Promise, Told, Try, WriteTold, if_taken, load_tries, message_try, part_tries, task_try, turn_tries}
 
@@ -167,6 +169,6 @@ module _ (g : Setting) (most : ℕ) (few : most ≤ 64) (laws : Lawful most g.ne
         clean = clean;
         calls = calls nothing (new_clean g) asks;
         canonical = ordered asks;
-        back = round_trip g most few laws (held g nothing asks) clean (ordered asks);
+        back = λ fits. round_trip g most few laws (held g nothing asks) clean (ordered asks) (held_short g nothing asks fits nothing_short);
         same = λ others members. (same_bytes (held g nothing asks) (held g nothing others) (ordered asks) (ordered others) members).1;
       }

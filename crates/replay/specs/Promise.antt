@@ -27,13 +27,14 @@ use Rattle.plan.specs.Writing.{part_bytes}
 use Rattle.plan.specs.declared.fault.LayoutFault.{LayoutFault}
 use Rattle.plan.specs.declared.fault.LoadFault.{LoadFault}
 use Rattle.plan.specs.declared.fault.LoadFault.TheVariants as load_fault
-use Rattle.promise.specs.Canonical.{Canonical, SameMembers, ShortNames}
+use Rattle.promise.specs.Canonical.{Canonical, SameMembers}
 use Rattle.promise.specs.Clean.{Clean, In}
 use Rattle.promise.specs.Droppings.{MessageDropped, TaskDropped}
 use Rattle.promise.specs.Offers.{EarlyMessage, EarlyTask, MessageAnswer, MessageFits, MessagePassed, Smallest, TaskAnswer, TaskFits, TaskPassed}
 use Rattle.promise.specs.Questions.{CoreTold, LinkTold, SlackTold}
 use Rattle.replay.specs.declared.calls.Answer.TheVariants as answer
 use Rattle.replay.specs.Calls.{Ask, Said, answers, asking_core, asking_link, asking_slack, dropping_message, dropping_task, held, loading, offering_message, offering_task, placing_message, placing_task, writing}
+use Rattle.replay.specs.Short.{ShortAsk}
 
 -- ---- the offers of a load
 
@@ -164,20 +165,21 @@ After g js (writing room) r after = after ≡ js
 
 -- ---- lists of calls
 
--- the job part of the held jobs, where their names fit in two bytes, loaded into a new plan over the same network, is taken whole and
--- gives the same jobs
+-- the job part of the held jobs, loaded into a new plan over the same network, is taken whole and gives the same jobs
 abbrev pub LoadsBack : Setting → Jobs → Type 0
-LoadsBack g js = ShortNames js → load g nothing (part_bytes js) ≡ (Ok (counts_of js), js)
+LoadsBack g js = load g nothing (part_bytes js) ≡ (Ok (counts_of js), js)
 
 -- after the list the plan is clean, for all of time, its names ascend and its numbers are kept; each call of the list is answered as
--- promised, with the jobs that the calls before it leave held, and leaves held what its answer says; the job part of what is held loads back; and lists that leave the same members held have the same job part
+-- promised, with the jobs that the calls before it leave held, and leaves held what its answer says; the job part of what is held loads
+-- back, where the names in the calls fit in two bytes and what they load are bytes; and lists that leave the same members held have the
+-- same job part
 pub record Promise (g : Setting) (asks : List Ask) : Type 0 where
   pub clean : Clean g (held g nothing asks)
   pub calls : (i : ℕ) (a : Ask) → slice_get asks i ≡ Some a
       → (r : Said) × (slice_get (answers g nothing asks) i ≡ Some r) × Told g (held g nothing (take i asks)) a r
       × After g (held g nothing (take i asks)) a r (held g nothing (take (suc i) asks))
   pub canonical : Canonical (held g nothing asks)
-  pub back : LoadsBack g (held g nothing asks)
+  pub back : ((a : Ask) → In a asks → ShortAsk a) → LoadsBack g (held g nothing asks)
   pub same : (others : List Ask) → SameMembers (held g nothing asks) (held g nothing others) → part_bytes (held g nothing asks) ≡ part_bytes (held g nothing others)
 
 -- for every network that keeps the laws, and every list of calls

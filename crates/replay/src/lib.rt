@@ -3,11 +3,11 @@
 
 ghost use Rattle.jobs.specs.Jobs.{nothing, over};
 ghost use Rattle.plan.specs.Held.{jobs, setting};
-ghost use Rattle.promise.specs.Canonical.{Canonical};
+ghost use Rattle.promise.specs.Canonical.{Canonical, ShortNames};
 ghost use Rattle.promise.specs.Clean.{Clean};
 ghost use Rattle.refusals.specs.Written.{written};
 ghost use Rattle.replay.specs.Calls.{answer_told, answers, ask, asked, bytes_given, giving, held, read_off, stays};
-ghost use Rattle.replay.specs.Promise.{After, MainPromise, Promise, Told};
+ghost use Rattle.replay.specs.Promise.{After, LoadsBack, MainPromise, Promise, Told};
 ghost use Rattle.std.specs.Prelude.{◌≡◌, true, length, map, vec_items, IfOk};
 
 use fabric::Fabric;
@@ -16,8 +16,10 @@ use plan::plan::LONGEST_PART;
 use std::alloc::{AllocError, Global};
 
 pub mod calls;
+mod fits;
 
 use calls::{Answer, Call};
+use fits::{call_fits, calls_fit};
 
 // The method of the plan that a call asks for. A list of calls is read and kept, so a call is a value and no closure.
 fn dispatch<F: Fabric>(
@@ -47,7 +49,7 @@ fn dispatch<F: Fabric>(
 }
 
 // Runs one call on a plan. It needs no memory but the plan's and the page, to the start of which a write goes. A clean plan stays
-// clean, the call is answered as promised, and what is held then is what its answer says.
+// clean, the call is answered as promised, and what is held then is what its answer says. Held names that fit in two bytes still do.
 pub fn step<F: Fabric>(
     plan: &mut Plan<'_, F>,
     call: &Call<'_>,
@@ -63,7 +65,9 @@ pub fn step<F: Fabric>(
     ensures numbers { answer_told result ≡ answer_told (ask (setting F.Fabric.meaning plan.old) (jobs plan.old) (asked call.now)).0 }
     ensures left { Clean (setting F.Fabric.meaning plan.old) (jobs plan.old) → After (setting F.Fabric.meaning plan.old) (jobs plan.old) (asked call.now) (read_off page.new result) (jobs plan.new) }
     ensures canonical { Canonical (jobs plan.old) → Canonical (jobs plan.new) }
+    ensures short { ShortNames (jobs plan.old) → ShortNames (jobs plan.new) }
 {
+    call_fits(call);
     dispatch(plan, call, page)
 }
 
@@ -87,7 +91,7 @@ fn owned(heap: Global, answer: Answer<usize>, page: &[u8]) -> Result<Answer<Vec<
     })
 }
 
-// A new plan over the fabric after a list of calls, and what they answered.
+// A new plan over the fabric after a list of calls, and what they answered. The job part of what is held then loads back.
 pub fn replay<'f, F: Fabric>(
     heap: Global,
     fabric: &'f F,
@@ -98,8 +102,10 @@ pub fn replay<'f, F: Fabric>(
     ensures held { IfOk result (λ p. jobs p.0 ≡ held (over F.Fabric.meaning fabric.now) nothing (map asked calls.now)) }
     ensures fabric { IfOk result (λ p. setting F.Fabric.meaning p.0 ≡ over F.Fabric.meaning fabric.now) }
     ensures clean { IfOk result (λ p. Clean (over F.Fabric.meaning fabric.now) (jobs p.0)) }
+    ensures back { LoadsBack (over F.Fabric.meaning fabric.now) (held (over F.Fabric.meaning fabric.now) nothing (map asked calls.now)) }
     ensures promise { Promise (over F.Fabric.meaning fabric.now) (map asked calls.now) }
 {
+    calls_fit(calls);
     let mut answers = Vec::new(heap);
     let mut plan = Plan::new(fabric);
     let mut page = [0; LONGEST_PART];

@@ -10,6 +10,7 @@ use Rattle.promise.specs.Clean.{Clean}
 use Rattle.replay.proofs.Pages.{all_told_same, read_back}
 use Rattle.replay.proofs.Promises.{promise}
 use Rattle.replay.proofs.Runs.{answers_on, answers_end, held_on, held_end}
+use Rattle.replay.proofs.Shorts.{asks_fit}
 use Rattle.replay.proofs.replay.Goals as goal
 
 pub loop-call-preserved : goal.loop-call-preserved
@@ -44,6 +45,7 @@ returns g c =
       held = is;
       fabric = c.loop-call.invariant.0;
       clean = subst (Clean s) (sym is) kept.clean;
+      back = kept.back (asks_fit calls c.calls_fit.ensures.fits);
       promise = kept;
     }
 
@@ -53,3 +55,9 @@ returns-in_err-answer-clause-promise g c = promise (over g.F.Fabric.meaning c.ar
 
 pub returns-in_err-push-clause-promise : goal.returns-in_err-push-clause-promise
 returns-in_err-push-clause-promise g c = promise (over g.F.Fabric.meaning c.args.fabric.now) g.F.Fabric.longest g.F.Fabric.bounded (g.F.Fabric.lawful c.args.fabric.now) (map asked c.args.calls.now)
+
+pub returns-in_err-answer-clause-back : goal.returns-in_err-answer-clause-back
+returns-in_err-answer-clause-back g c = (promise (over g.F.Fabric.meaning c.args.fabric.now) g.F.Fabric.longest g.F.Fabric.bounded (g.F.Fabric.lawful c.args.fabric.now) (map asked c.args.calls.now)).back (asks_fit c.args.calls.now c.calls_fit.ensures.fits)
+
+pub returns-in_err-push-clause-back : goal.returns-in_err-push-clause-back
+returns-in_err-push-clause-back g c = (promise (over g.F.Fabric.meaning c.args.fabric.now) g.F.Fabric.longest g.F.Fabric.bounded (g.F.Fabric.lawful c.args.fabric.now) (map asked c.args.calls.now)).back (asks_fit c.args.calls.now c.calls_fit.ensures.fits)

@@ -1,12 +1,13 @@
 use Rattle.std.proofs.Common.{length, sym, ap, ◌∙◌, subst}
 use Rattle.plan.specs.Held.{jobs, setting}
-use Rattle.promise.specs.Canonical.{Canonical}
+use Rattle.promise.specs.Canonical.{Canonical, ShortNames}
 use Rattle.promise.specs.Clean.{Clean}
 use Rattle.replay.specs.Calls.{answer_told, ask, asked, read_off}
 use Rattle.replay.specs.Promise.{After, Told}
 use Rattle.replay.proofs.Afters.{after}
 use Rattle.replay.proofs.Pages.{read_back, told_same}
 use Rattle.replay.proofs.Promises.{ask_canonical, ask_keeps, told}
+use Rattle.replay.proofs.Shorts.{ask_short}
 use Rattle.replay.proofs.step.Goals as goal
 
 pub returns : goal.returns
@@ -28,4 +29,5 @@ returns g c =
       left = λ clean. subst (λ r. After s (jobs p) a r (jobs c.dispatch.new.plan)) (sym read)
           (subst (After s (jobs p) a (ask s (jobs p) a).0) (sym c.dispatch.ensures.after) (after s (jobs p) clean a));
       canonical = λ kept. subst Canonical (sym c.dispatch.ensures.after) (ask_canonical s g.F.Fabric.longest g.F.Fabric.bounded laws (jobs p) a kept);
+      short = λ here. subst ShortNames (sym c.dispatch.ensures.after) (ask_short s (jobs p) a c.call_fits.ensures.fits here);
     }
