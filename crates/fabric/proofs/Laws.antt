@@ -2,7 +2,7 @@
 -- An answer comes as the questions' contracts give it: `Some k ≡ route_length o`, `Some x ≡ route_place o i`, `None ≡ ..`.
 use Rattle.std.proofs.Common.{◌≡◌, ℕ, zero, suc, ◌+◌, ◌<◌, ◌≤◌, List, [], ◌∷◌, length, get_or, drop, Some, None, Option, refl, ap, ◌∙◌, ⊎_elim, arith}
 use Rattle.std.specs.List.{slice_get}
-use Rattle.std.proofs.lemmas.List.{drop_more, at_drop_all}
+use Rattle.std.proofs.lemmas.List.{drop_more}
 use Rattle.std.proofs.lemmas.Option.{slice_get-get_or, slice_get_past}
 use Rattle.std.proofs.lemmas.Bool.{cases_lt}
 use Rattle.fabric.specs.Network.{Network, Lawful, Chain, route_length, route_place}
@@ -60,14 +60,6 @@ module _ {longest : ℕ} {n : Network} (laws : Lawful longest n) (a b : ℕ) whe
   -- and so at most 64
   pub answer_64 : longest ≤ 64 → (k : ℕ) → Some k ≡ route_length (n.route a b) → k ≤ 64
   answer_64 bounded k is = omega (arith, answer_short k is)
-
-  rest_past_at : (o : Option (List ℕ)) → n.route a b ≡ o → (i : ℕ) → longest ≤ i → rest o i ≡ []
-  rest_past_at None e i h = refl
-  rest_past_at (Some r) e i h = at_drop_all (λ xs. xs) r i (omega (arith, laws.short a b r e))
-
-  -- from the kind's longest on no link is left
-  pub rest_past : (i : ℕ) → longest ≤ i → rest (n.route a b) i ≡ []
-  rest_past i h = rest_past_at (n.route a b) refl i h
 
   -- each link of a route is one of the fabric's link numbers
   pub link_below : (r : List ℕ) → n.route a b ≡ Some r → (i d : ℕ) → i < length r → get_or r i d < n.links

@@ -52,7 +52,7 @@ module _ (js : Jobs) where
       omega (arith, whole, section_length task_form (λ t. refl) js.tasks, section_length message_form (λ m. refl) js.messages)
 
   -- at most 64 tasks and 128 messages have no more
-  pub part_small : length js.tasks ≤ 64 → length js.messages ≤ 128 → length (part_bytes js) ≤ 3076
+  part_small : length js.tasks ≤ 64 → length js.messages ≤ 128 → length (part_bytes js) ≤ 3076
   part_small few few_messages = omega (arith, part_length, few, few_messages)
 
   -- it is longer than the room exactly where the code's sum is
@@ -124,8 +124,6 @@ module _ (js : Jobs) (few : length js.tasks ≤ 128) (few_messages : length js.m
       let fits : too_long js (length out) ≡ false = length_tested js (length out) ∙ le-ltb (length out) _ enough in
       rw (fits, at) (both_written js out x y front (subst (λ n. y ≡ messages js ++ drop (length (messages js)) (take (length x - n) (drop n x))) at back))
 
-  pub length_bound : length js.tasks ≤ 64 → {n : ℕ} → n ≡ length (messages js) → middle + n ≤ 3076
-  length_bound small e =
-      let a = section_length task_form (λ t. refl) js.tasks in
-      let b = section_length message_form (λ m. refl) js.messages in
-      omega (arith, a, b, at, e, small, few_messages)
+-- no job part of a plan is longer than that of a full one
+pub part_bound : {F : Type 0} (p : Plan F) → length (part_bytes (jobs p)) ≤ 3076
+part_bound p = part_small (jobs p) (few_tasks p 64 (omega arith)) (few_messages p)

@@ -50,6 +50,5 @@ module _ (g : Setting) (js : Jobs) (clean : Clean g js) (short : ShortNames js) 
 -- the bytes read back as the jobs, and their offers in turn are all taken
 pub round_trip : RoundTrip
 round_trip g longest few laws js clean here short =
-    ap (loaded g nothing)
-    (part_back js (omega (arith, here.few_tasks)) (omega (arith, here.few_messages)) (tasks_fit g js clean short laws.few_nodes) (messages_fit g js clean short))
-    ∙ all_taken g js clean here longest few laws
+    let reads = part_back js (omega (arith, here.few_tasks)) (omega (arith, here.few_messages)) (tasks_fit g js clean short laws.few_nodes) (messages_fit g js clean short) in
+    (reads, ap (loaded g nothing) reads ∙ all_taken g js clean here longest few laws)

@@ -1,7 +1,8 @@
 -- What is held in the order of its names, and the bytes that say it. Assumes nothing.
 --   Canonical     names ascend, and no more jobs are held than a plan has room for
 --   ShortNames    every name fits in two bytes
---   RoundTrip     the job part of a clean plan, loaded into a new plan, gives the same plan
+--   ReadsBack     the job part reads as the held jobs, each section in the order in which they are held
+--   RoundTrip     the job part of a clean plan reads so, and loaded into a new plan gives the same plan
 --   SameMembers   two plans hold the same jobs
 --   SameBytes     plans that hold the same jobs write the same bytes
 use Rattle.std.specs.Prelude.{◌≡◌, ℕ, ◌≤◌, true, ◌↔◌, length, Ok}
@@ -11,7 +12,7 @@ use Rattle.records.specs.declared.record.Task.{Task}
 use Rattle.records.specs.declared.record.Message.{Message}
 use Rattle.jobs.specs.Jobs.{Jobs, Setting, message_name, nothing, task_name}
 use Rattle.plan.specs.Held.{counts_of}
-use Rattle.plan.specs.Loading.{load}
+use Rattle.plan.specs.Loading.{job_part, load}
 use Rattle.plan.specs.Writing.{part_bytes}
 use Rattle.promise.specs.Clean.{Clean, In}
 
@@ -27,11 +28,16 @@ pub record ShortNames (js : Jobs) : Type 0 where
   pub tasks : (t : Task) → In t js.tasks → t.name ≤ 65535
   pub messages : (m : Message) → In m js.messages → m.name ≤ 65535
 
--- the job part of a clean plan, loaded into a new plan over the same fabric: every job is taken, and the same jobs are held
+-- the bytes read as the held tasks and the held messages, record by record in the order in which they are held
+abbrev pub ReadsBack : Jobs → Type 0
+ReadsBack js = job_part (part_bytes js) ≡ Ok (js.tasks, js.messages)
+
+-- the job part of a clean plan reads as its jobs, and loaded into a new plan over the same fabric every job is taken, and the same jobs
+-- are held
 abbrev pub RoundTrip : Type 0
 RoundTrip =
     (g : Setting) (longest : ℕ) → longest ≤ 64 → Lawful longest g.network → (js : Jobs) → Clean g js → Canonical js → ShortNames js
-    → load g nothing (part_bytes js) ≡ (Ok (counts_of js), js)
+    → ReadsBack js × (load g nothing (part_bytes js) ≡ (Ok (counts_of js), js))
 
 -- the same tasks and the same messages are held
 pub record SameMembers (a b : Jobs) : Type 0 where

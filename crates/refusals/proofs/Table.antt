@@ -1,5 +1,5 @@
 -- The table of words: each word comes back from its padded form. Assumes nothing.
-use Rattle.std.proofs.Common.{◌≡◌, ℕ, zero, suc, ◌-◌, ◌≤◌, true, List, [], ◌∷◌, length, get_or, take, map, refl, ap, ◌∙◌, ⊎_elim, not-suc-le-zero, arith}
+use Rattle.std.proofs.Common.{◌≡◌, ℕ, zero, suc, ◌-◌, ◌≤◌, true, List, [], ◌∷◌, ◌++◌, length, get_or, take, map, codes, refl, ap, ◌∙◌, ⊎_elim, not-suc-le-zero, arith}
 use Rattle.std.specs.Char.{is_ascii_whitespace}
 use Rattle.std.specs.List.{All, list_all, suffix_len}
 use Rattle.std.specs.Str.{IsTrimAsciiEnd, IsUtf8, bytes_eq, chars, is_utf8}
@@ -11,7 +11,11 @@ use Rattle.std.proofs.lemmas.Bool.{cases_lt}
 use Rattle.std.proofs.lemmas.Slice.Eq.{bytes_eq-Decides}
 use Rattle.std.proofs.lemmas.Str.{IsUtf8-from_is_utf8}
 use Rattle.std.proofs.lemmas.Str.Ascii.{trim_ascii_end_is}
-use Rattle.refusals.specs.Words.{words, word_of, padded_to8}
+use Rattle.refusals.specs.Words.{words, word_of}
+
+-- a word with spaces up to eight bytes, as the table keeps it
+abbrev pub padded_to8 : List ℕ → List ℕ
+padded_to8 w = take 8 (w ++ codes "        ")
 
 -- the bytes before the spaces at the end
 abbrev trimmed : List ℕ → List ℕ

@@ -33,6 +33,6 @@ line_of (Err told) =
     codes "REFUSED " ++ decimal told.section ++ codes " " ++ decimal told.«record» ++ codes " " ++ decimal told.refusal.number ++ codes " " ++ word_of told.refusal.number
     ++ detail_text told.refusal.detail ++ codes "\n"
 
--- the fault of a buffer of fewer than 64 bytes
+-- the fault of a buffer that is too short for what is written
 abbrev pub too_short : BufferFault
 too_short = record {}

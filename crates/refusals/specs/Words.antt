@@ -1,5 +1,5 @@
--- The word of each refusal number, and its padded form. Assumes nothing.
-use Rattle.std.specs.Prelude.{ℕ, List, [], ◌∷◌, ◌++◌, take, codes, slice_index_or}
+-- The word of each refusal number. Assumes nothing.
+use Rattle.std.specs.Prelude.{ℕ, List, [], ◌∷◌, codes, slice_index_or}
 
 -- the words of the refusals 1 to 27, in order
 abbrev pub words : List (List ℕ)
@@ -11,7 +11,3 @@ words =
 -- the word of a refusal's number; a number below 1 or above 27 has no bytes
 abbrev pub word_of : ℕ → List ℕ
 word_of number = slice_index_or ([] ∷ words) number []
-
--- a word with spaces up to eight bytes
-abbrev pub padded_to8 : List ℕ → List ℕ
-padded_to8 w = take 8 (w ++ codes "        ")

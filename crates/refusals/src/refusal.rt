@@ -79,7 +79,7 @@ impl Told {
     }
 }
 
-// The buffer has fewer than 64 bytes: refusal 27.
+// The buffer is too short for what is written: refusal 27.
 #[derive(Clone, Copy, PartialEq, Eq, Debug)]
 pub struct BufferFault;
 

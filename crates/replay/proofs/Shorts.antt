@@ -1,6 +1,6 @@
 -- Every call keeps the held names within two bytes, where its own name fits and what it loads are bytes; so does a list of such calls.
 -- Assumes nothing.
-use Rattle.std.proofs.Common.{suc, List, [], ◌∷◌, map, ⊎_elim, sym, refl, subst, arith}
+use Rattle.std.proofs.Common.{ℕ, zero, suc, List, [], ◌∷◌, map, take, ⊎_elim, sym, refl, subst, arith}
 use Rattle.std.specs.List.{All}
 use Rattle.jobs.specs.Jobs.{Jobs, Setting}
 use Rattle.promise.specs.Canonical.{ShortNames}
@@ -31,7 +31,16 @@ module _ (g : Setting) where
       held_short (ask g js a).1 rest (λ b i. fits b (in_there a b rest i)) (ask_short js a (fits a (in_here a a rest refl)) here)
 
 -- what each call of a list has, each of its arguments has
-pub asks_fit : (calls : List Call) → All (λ call. ShortAsk (asked call)) calls → (a : Ask) → In a (map asked calls) → ShortAsk a
+asks_fit : (calls : List Call) → All (λ call. ShortAsk (asked call)) calls → (a : Ask) → In a (map asked calls) → ShortAsk a
 asks_fit [] all a i = absurd (in_nil a i)
 asks_fit (call ∷ calls) all a i =
     ⊎_elim (λ e. subst ShortAsk (sym e) (all 0 call (omega arith))) (asks_fit calls (λ k d h. all (suc k) d (omega (arith, h))) a) (in_cases (asked call) a (map asked calls) i)
+
+-- a member of the front of a list is one of the list
+in_front : {X : Type 0} (n : ℕ) (xs : List X) (x : X) → In x (take n xs) → In x xs
+in_front zero xs x i = absurd (in_nil x i)
+in_front (suc n) [] x i = i
+in_front (suc n) (y ∷ xs) x i = ⊎_elim (λ e. in_here y x xs e) (λ j. in_there y x xs (in_front n xs x j)) (in_cases y x (take n xs) i)
+
+pub front_fits : (calls : List Call) → All (λ call. ShortAsk (asked call)) calls → (n : ℕ) (a : Ask) → In a (take n (map asked calls)) → ShortAsk a
+front_fits calls all n a i = asks_fit calls all a (in_front n (map asked calls) a i)

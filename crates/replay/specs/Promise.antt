@@ -27,7 +27,7 @@ use Rattle.plan.specs.Writing.{part_bytes}
 use Rattle.plan.specs.declared.fault.LayoutFault.{LayoutFault}
 use Rattle.plan.specs.declared.fault.LoadFault.{LoadFault}
 use Rattle.plan.specs.declared.fault.LoadFault.TheVariants as load_fault
-use Rattle.promise.specs.Canonical.{Canonical, SameMembers}
+use Rattle.promise.specs.Canonical.{Canonical, ReadsBack, SameMembers}
 use Rattle.promise.specs.Clean.{Clean, In}
 use Rattle.promise.specs.Droppings.{MessageDropped, TaskDropped}
 use Rattle.promise.specs.Offers.{EarlyMessage, EarlyTask, MessageAnswer, MessageFits, MessagePassed, Smallest, TaskAnswer, TaskFits, TaskPassed}
@@ -165,9 +165,10 @@ After g js (writing room) r after = after ≡ js
 
 -- ---- lists of calls
 
--- the job part of the held jobs, loaded into a new plan over the same network, is taken whole and gives the same jobs
+-- the job part of the held jobs reads as these jobs in the order in which they are held, and loaded into a new plan over the same network
+-- it is taken whole and gives the same jobs
 abbrev pub LoadsBack : Setting → Jobs → Type 0
-LoadsBack g js = load g nothing (part_bytes js) ≡ (Ok (counts_of js), js)
+LoadsBack g js = ReadsBack js × (load g nothing (part_bytes js) ≡ (Ok (counts_of js), js))
 
 -- after the list the plan is clean, for all of time, its names ascend and its numbers are kept; each call of the list is answered as
 -- promised, with the jobs that the calls before it leave held, and leaves held what its answer says; the job part of what is held loads

@@ -8,7 +8,7 @@ ghost use Rattle.promise.specs.Clean.{Clean};
 ghost use Rattle.refusals.specs.Written.{written};
 ghost use Rattle.replay.specs.Calls.{answer_told, answers, ask, asked, bytes_given, giving, held, read_off, stays};
 ghost use Rattle.replay.specs.Promise.{After, LoadsBack, MainPromise, Promise, Told};
-ghost use Rattle.std.specs.Prelude.{◌≡◌, true, length, map, vec_items, IfOk};
+ghost use Rattle.std.specs.Prelude.{◌≡◌, ℕ, true, length, map, take, vec_items, IfOk};
 
 use fabric::Fabric;
 use plan::Plan;
@@ -91,7 +91,8 @@ fn owned(heap: Global, answer: Answer<usize>, page: &[u8]) -> Result<Answer<Vec<
     })
 }
 
-// A new plan over the fabric after a list of calls, and what they answered. The job part of what is held then loads back.
+// A new plan over the fabric after a list of calls, and what they answered. The job part of what is held
+// after any of the calls loads back.
 pub fn replay<'f, F: Fabric>(
     heap: Global,
     fabric: &'f F,
@@ -102,7 +103,7 @@ pub fn replay<'f, F: Fabric>(
     ensures held { IfOk result (λ p. jobs p.0 ≡ held (over F.Fabric.meaning fabric.now) nothing (map asked calls.now)) }
     ensures fabric { IfOk result (λ p. setting F.Fabric.meaning p.0 ≡ over F.Fabric.meaning fabric.now) }
     ensures clean { IfOk result (λ p. Clean (over F.Fabric.meaning fabric.now) (jobs p.0)) }
-    ensures back { LoadsBack (over F.Fabric.meaning fabric.now) (held (over F.Fabric.meaning fabric.now) nothing (map asked calls.now)) }
+    ensures back { (i : ℕ) → LoadsBack (over F.Fabric.meaning fabric.now) (held (over F.Fabric.meaning fabric.now) nothing (take i (map asked calls.now))) }
     ensures promise { Promise (over F.Fabric.meaning fabric.now) (map asked calls.now) }
 {
     calls_fit(calls);

@@ -6,16 +6,15 @@ use Rattle.jobs.specs.declared.fault.MessageFault.TheVariants as message_fault
 use Rattle.jobs.specs.declared.fault.PlacingFault.TheVariants as placing
 use Rattle.jobs.specs.Jobs.{Setting, nothing}
 use Rattle.plan.specs.declared.fault.LoadFault.TheVariants as load_fault
-use Rattle.refusals.specs.Lines.{line_of}
+use Rattle.refusals.specs.Lines.{line_of, too_short}
 use Rattle.verdict.specs.Told.{verdict_line}
 use Rattle.verdict.specs.Verdict.{verdict_of}
-use Rattle.replay.specs.declared.calls.Answer.{Answer}
 use Rattle.replay.specs.declared.calls.Answer.TheVariants as answer
-use Rattle.replay.specs.Calls.{Ask, answers, asking_slack, loading, offering_message, offering_task, placing_message, placing_task}
+use Rattle.replay.specs.Calls.{Ask, Said, answers, asking_slack, loading, offering_message, offering_task, placing_message, placing_task, writing}
 
 -- calls on a new plan with their answers in order, the route between two nodes, or a plan file with its verdict line
 pub data Case : Type 0 where
-  calling : Setting → List Ask → List Answer → Case
+  calling : Setting → List Ask → List Said → Case
   routing : Setting → (from to : ℕ) → List ℕ → Case
   judging : (file line : List ℕ) → Case
 
@@ -48,23 +47,29 @@ abbrev pub open_message : (name source destination kind width : ℕ) → Ask
 open_message n s d k w = placing_message (record { name = n; source = s; destination = d; kind = k; width = w })
 
 -- answers
-abbrev pub task_taken : Answer
+abbrev pub task_taken : Said
 task_taken = answer.TaskOffered (Ok tt)
 
-abbrev pub message_taken : Answer
+abbrev pub message_taken : Said
 message_taken = answer.MessageOffered (Ok tt)
 
-abbrev pub task_meets : (instant held place : ℕ) → Answer
+abbrev pub task_meets : (instant held place : ℕ) → Said
 task_meets n h p = answer.TaskOffered (Err (task_fault.Meets (record { instant = n; held = h; place = p })))
 
-abbrev pub message_meets : (instant held place : ℕ) → Answer
+abbrev pub message_meets : (instant held place : ℕ) → Said
 message_meets n h p = answer.MessageOffered (Err (message_fault.Meets (record { instant = n; held = h; place = p })))
 
-abbrev pub all_loaded : (tasks messages : ℕ) → Answer
+abbrev pub all_loaded : (tasks messages : ℕ) → Said
 all_loaded t m = answer.Loaded (Ok (record { tasks = t; messages = m }))
 
-abbrev pub late : ℤ → Answer
+abbrev pub late : ℤ → Said
 late v = answer.MessageOffered (Err (message_fault.Late v))
+
+abbrev pub written : List ℕ → Said
+written bytes = answer.Written (Ok bytes)
+
+abbrev pub no_room : Said
+no_room = answer.Written (Err too_short)
 
 -- the job part of two tasks on two nodes and a message between them with a delay
 abbrev pub two_nodes : ℕ → List ℕ
@@ -103,6 +108,9 @@ worked =
     ∷ judging (two_nodes_file 0) (codes "CLEAR 2 1\n")
     ∷ judging (two_nodes_file 6) (codes "CLEAR 2 1\n")
     ∷ judging (two_nodes_file 7) (codes "REFUSED 4 0 19 LATE -1\n")
+    -- what was loaded is written, where it has the room, and in ascending names whatever the order of the offers
+    ∷ calling (mesh 2 1 3) (loading (two_nodes 0) ∷ writing 51 ∷ writing 52 ∷ []) (all_loaded 2 1 ∷ no_room ∷ written (two_nodes 0) ∷ [])
+    ∷ calling (mesh 2 1 3) (task 2 1 20 15 5 ∷ task 1 0 20 0 4 ∷ message 1 1 2 0 0 2 ∷ writing 4096 ∷ []) (task_taken ∷ task_taken ∷ message_taken ∷ written (two_nodes 0) ∷ [])
     -- a second message meets the first on its link, and is placed behind it
     ∷ calling (mesh 2 1 3) (loading (two_nodes 0) ∷ message 2 1 2 0 1 2 ∷ open_message 2 1 2 0 2 ∷ []) (all_loaded 2 1 ∷ message_meets 5 1 0 ∷ answer.MessagePlaced (Ok 2) ∷ [])
     -- to a faster reader the least slack is not that of packet 0, and by kind 1 there is a period more

@@ -4,7 +4,7 @@ ghost use Rattle.plan.specs.Writing.{part_bytes, too_long};
 ghost use Rattle.refusals.specs.Lines.{too_short};
 ghost use Rattle.refusals.specs.Told.{buffer_told, plain, refusal_of};
 ghost use Rattle.refusals.specs.Written.{written};
-ghost use Rattle.std.specs.Prelude.{◌≡◌, ◌≤◌, if◌then◌else◌, length, IfOk, Some, None, Ok, Err};
+ghost use Rattle.std.specs.Prelude.{◌≡◌, ◌≤◌, if◌then◌else◌, length, Some, None, Ok, Err};
 
 use super::Plan;
 use fabric::Fabric;
@@ -12,17 +12,18 @@ use records::record::{Message, Record, Task};
 use records::section::write_section;
 use refusals::refusal::BufferFault;
 
-// The job part of a full plan, 64 tasks and 128 messages, is as long as this, and no other is longer.
+// The job part of a full plan, 64 tasks and 128 messages, is as long as this; no plan writes a longer one.
 pub const LONGEST_PART: usize = 3076;
 
 impl<'f, F: Fabric> Plan<'f, F> {
-    // Writes the job part, each section in ascending names, to the start of the buffer and answers its length; bytes beyond it
-    // stay. A buffer that is shorter is refused and stays.
+    // Writes the job part, each section in the order in which the plan holds it, which is that of ascending names, to the start of
+    // the buffer and answers its length; bytes beyond it stay. A buffer shorter than the job part is refused and stays.
+    #[tactic(auto, using(crate::proofs::Writing::part_bound))]
     pub fn write(&self, out: &mut [u8]) -> Result<usize, BufferFault>
         ensures answer { result ≡ (if too_long (jobs self.now) (length out.old) then Err too_short else Ok (length (part_bytes (jobs self.now)))) }
         ensures buffer { out.new ≡ (if too_long (jobs self.now) (length out.old) then out.old else written out.old 0 (part_bytes (jobs self.now))) }
         ensures told { refusal_of buffer_told result ≡ (if too_long (jobs self.now) (length out.old) then Some (plain 27) else None) }
-        ensures bound { IfOk result (λ n. n ≤ 3076) }
+        ensures bound { length (part_bytes (jobs self.now)) ≤ 3076 }
     {
         let tasks = self.tasks.held();
         let messages = self.messages.held();

@@ -1,17 +1,27 @@
-use Rattle.std.proofs.Common.{[], ◌∷◌, map, get_or, vec_items, sym, refl, ap, ◌∙◌, subst}
+use Rattle.std.proofs.Common.{ℕ, List, [], ◌∷◌, map, take, get_or, vec_items, sym, refl, ap, ◌∙◌, subst}
 use Rattle.std.proofs.lemmas.List.{map_push}
 use Rattle.std.proofs.lemmas.Slice.{pushed}
-use Rattle.jobs.specs.Jobs.{over}
+use Rattle.std.specs.List.{All}
+use Rattle.jobs.specs.Jobs.{nothing, over}
 use Rattle.plan.specs.Held.{jobs}
 use Rattle.replay.specs.declared.calls.Call.{Call}
 use Rattle.replay.specs.declared.calls.Call.TheVariants.{OfferTask}
-use Rattle.replay.specs.Calls.{answer_told, asked, ask, giving, read_off}
+use Rattle.replay.specs.Calls.{answer_told, asked, ask, giving, held, read_off}
+use Rattle.replay.specs.Promise.{LoadsBack}
+use Rattle.replay.specs.Short.{ShortAsk}
 use Rattle.promise.specs.Clean.{Clean}
 use Rattle.replay.proofs.Pages.{all_told_same, read_back}
 use Rattle.replay.proofs.Promises.{promise}
 use Rattle.replay.proofs.Runs.{answers_on, answers_end, held_on, held_end}
-use Rattle.replay.proofs.Shorts.{asks_fit}
+use Rattle.replay.proofs.Shorts.{front_fits}
+use Rattle.replay.proofs.replay.Given.{Over}
 use Rattle.replay.proofs.replay.Goals as goal
+
+-- what is held after any of the calls loads back, since the names of a caller's calls are short
+back_each : (g : Over) (f : g.row.F.Denot) (calls : List Call) → All (λ call. ShortAsk (asked call)) calls → (i : ℕ)
+    → LoadsBack (over g.F.Fabric.meaning f) (held (over g.F.Fabric.meaning f) nothing (take i (map asked calls)))
+back_each g f calls fits i =
+    (promise (over g.F.Fabric.meaning f) g.F.Fabric.longest g.F.Fabric.bounded (g.F.Fabric.lawful f) (take i (map asked calls))).back (front_fits calls fits i)
 
 pub loop-call-preserved : goal.loop-call-preserved
 loop-call-preserved g c =
@@ -45,7 +55,7 @@ returns g c =
       held = is;
       fabric = c.loop-call.invariant.0;
       clean = subst (Clean s) (sym is) kept.clean;
-      back = kept.back (asks_fit calls c.calls_fit.ensures.fits);
+      back = back_each g c.args.fabric.now calls c.calls_fit.ensures.fits;
       promise = kept;
     }
 
@@ -57,7 +67,7 @@ pub returns-in_err-push-clause-promise : goal.returns-in_err-push-clause-promise
 returns-in_err-push-clause-promise g c = promise (over g.F.Fabric.meaning c.args.fabric.now) g.F.Fabric.longest g.F.Fabric.bounded (g.F.Fabric.lawful c.args.fabric.now) (map asked c.args.calls.now)
 
 pub returns-in_err-answer-clause-back : goal.returns-in_err-answer-clause-back
-returns-in_err-answer-clause-back g c = (promise (over g.F.Fabric.meaning c.args.fabric.now) g.F.Fabric.longest g.F.Fabric.bounded (g.F.Fabric.lawful c.args.fabric.now) (map asked c.args.calls.now)).back (asks_fit c.args.calls.now c.calls_fit.ensures.fits)
+returns-in_err-answer-clause-back g c = back_each g c.args.fabric.now c.args.calls.now c.calls_fit.ensures.fits
 
 pub returns-in_err-push-clause-back : goal.returns-in_err-push-clause-back
-returns-in_err-push-clause-back g c = (promise (over g.F.Fabric.meaning c.args.fabric.now) g.F.Fabric.longest g.F.Fabric.bounded (g.F.Fabric.lawful c.args.fabric.now) (map asked c.args.calls.now)).back (asks_fit c.args.calls.now c.calls_fit.ensures.fits)
+returns-in_err-push-clause-back g c = back_each g c.args.fabric.now c.args.calls.now c.calls_fit.ensures.fits

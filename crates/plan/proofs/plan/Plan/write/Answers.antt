@@ -2,7 +2,7 @@ use Rattle.std.proofs.Common.{◌≡◌, ◌∙◌, ◌+◌, ◌*◌, true, fals
 use Rattle.std.proofs.lemmas.Bool.{lt-ltb}
 use Rattle.plan.specs.Held.{jobs}
 use Rattle.plan.specs.Writing.{too_long}
-use Rattle.plan.proofs.Writing.{few_messages, few_tasks, length_bound, length_tested, messages_told, messages_written}
+use Rattle.plan.proofs.Writing.{few_messages, few_tasks, length_tested, messages_told, messages_written}
 use Rattle.plan.proofs.plan.Plan.write.Given.{Over}
 use Rattle.plan.proofs.plan.Plan.write.Goals as goal
 
@@ -40,14 +40,3 @@ returns-clause-buffer g c =
     messages_written (jobs p) (few_tasks p 128 (omega arith)) (few_messages p) c.held-tasks.result.now c.held-messages.result.now c.held-tasks.ensures c.held-messages.ensures
     c.args.out.now c.write_section.new.out c.in_ok-middle.middle c.write_section.result c.if-out-tasks.false c.write_section.ensures.answer c.in_ok-middle.ensures.ok_part c.write_section.ensures.bytes
     c.write_section-2.ensures.bytes
-
-pub returns-clause-bound : goal.returns-clause-bound
-returns-clause-bound g c =
-    let p = c.args.self.now in
-    let told = messages_told (jobs p) (few_tasks p 128 (omega arith)) (few_messages p) c.held-tasks.result.now c.held-messages.result.now c.held-tasks.ensures c.held-messages.ensures
-    c.args.out.now c.write_section.new.out c.in_ok-middle.middle c.write_section.result c.if-out-tasks.false c.write_section.ensures.answer c.in_ok-middle.ensures.ok_part c.write_section.ensures.bytes
-    c.write_section-2.ensures.answer in
-    let rest = c.in_ok-rest.ensures.ok_part in
-    length_bound (jobs p) (few_tasks p 128 (omega arith)) (few_messages p) c.held-tasks.result.now c.held-messages.result.now c.held-tasks.ensures c.held-messages.ensures
-    c.args.out.now c.write_section.new.out c.in_ok-middle.middle c.write_section.result c.if-out-tasks.false c.write_section.ensures.answer c.in_ok-middle.ensures.ok_part c.write_section.ensures.bytes
-    (few_tasks p 64 (omega arith)) cc
