@@ -2,3 +2,4 @@ mod Texts
 mod ReadBack
 mod Runs
 mod Hexes
+mod Parts

@@ -6,3 +6,4 @@ pub mod Lines
 pub mod Replies
 pub mod Running
 pub mod Fabrics
+pub mod Transcripts

@@ -1,4 +1,4 @@
-// Scripts of calls: a line read, an answer shown, and the calls of lines run.
+// Scripts of calls: a line read, an answer shown, the calls of lines run, and a whole script with its answers.
 #![tactic(auto)]
 
 mod bytes;
@@ -12,3 +12,4 @@ pub mod showing;
 #[cfg(test)]
 mod tests;
 mod text;
+pub mod transcript;

@@ -1,0 +1,93 @@
+-- What a script prints: each line that is not blank, with what it is answered. Assumes nothing.
+--   Session, begun     the setting of the plan and the jobs that it holds; a new plan
+--   sets               the network that a line sets
+--   leaves             the session after a line
+--   reply_to           what a line is answered, as text
+--   transcript_text    the whole
+use Rattle.std.specs.Prelude.{ℕ, List, [], ◌∷◌, ◌++◌, Some, None, codes, drop, Option, ◌==◌}
+use Rattle.std.specs.List.{slice_split}
+use Rattle.fabric.specs.Network.{Network}
+use Rattle.fabric.specs.Grid.{grid_made}
+use Rattle.listed.specs.Setting.{alone, network, setting_read}
+use Rattle.jobs.specs.Jobs.{Jobs, Setting, nothing}
+use Rattle.replay.specs.Calls.{Said, ask}
+use Rattle.script.specs.Fabrics.{listed_reply, mesh_reply}
+use Rattle.script.specs.Readings.{Reading, blank, calling, listed_fabric, mesh_fabric, read_line, unread}
+use Rattle.script.specs.Replies.{answer_text, either, reply_text}
+use Rattle.script.specs.declared.reply.Reply.TheVariants as reply
+
+-- what the plan was created with, and the jobs that it holds
+pub record Session : Type 0 where
+  pub setting : Setting
+  pub jobs : Jobs
+
+-- a new plan over a network
+abbrev pub begun : Network → Session
+begun net = record { setting = record { network = net }; jobs = nothing }
+
+-- the network of a fabric line that is taken; no other line sets one
+abbrev pub sets : Reading → Option Network
+sets (mesh_fabric x y delay) = either Some (λ _. None) (grid_made x y delay)
+sets (listed_fabric file) = either (λ p. Some (network p.0)) (λ _. None) (setting_read file)
+sets blank = None
+sets unread = None
+sets (calling a) = None
+
+-- a new plan where a network is set
+abbrev pub anew : Session → Option Network → Session
+anew s None = s
+anew s (Some net) = begun net
+
+-- a call leaves held what it says, and any other line either begins a new plan or leaves all as it is
+abbrev pub leaves : Session → Reading → Session
+leaves s (calling a) = record { setting = s.setting; jobs = (ask s.setting s.jobs a).1 }
+leaves s blank = s
+leaves s unread = s
+leaves s (mesh_fabric x y delay) = anew s (sets (mesh_fabric x y delay))
+leaves s (listed_fabric file) = anew s (sets (listed_fabric file))
+
+-- a blank line is answered nothing
+abbrev pub reply_to : Session → Reading → Option (List ℕ)
+reply_to s blank = None
+reply_to s unread = Some (reply_text reply.Unread)
+reply_to s (mesh_fabric x y delay) = Some (reply_text (mesh_reply x y delay))
+reply_to s (listed_fabric file) = Some (reply_text (listed_reply file))
+reply_to s (calling a) = Some (answer_text (ask s.setting s.jobs a).0)
+
+-- a line as it came, with its answer
+abbrev pub told : List ℕ → Option (List ℕ) → List ℕ
+told text None = []
+told text (Some answer) = text ++ (codes ": " ++ (answer ++ codes "\n"))
+
+-- lines in turn, each in the session that those before it leave
+abbrev pub told_from : Session → List (List ℕ) → List ℕ
+told_from s [] = []
+told_from s (text ∷ texts) = told text (reply_to s (read_line text)) ++ told_from (leaves s (read_line text)) texts
+
+-- the lines of a script are what stands between its newlines; the first plan is over a listed fabric of one node
+abbrev pub transcript_text : List ℕ → List ℕ
+transcript_text script = told_from (begun (network alone)) (slice_split (λ b. b == 10) script)
+
+-- ---- a list of calls run at once
+
+-- the session in which lines begin, where a fabric line begins a plan of its own
+abbrev pub first : List Reading → Session
+first [] = begun (network alone)
+first (r ∷ rs) = anew (begun (network alone)) (sets r)
+
+-- what a line is answered, where these are the answers to the calls from it on
+abbrev pub answered : Reading → List Said → Option (List ℕ)
+answered blank xs = None
+answered unread xs = Some (reply_text reply.Unread)
+answered (mesh_fabric x y delay) xs = Some (reply_text (mesh_reply x y delay))
+answered (listed_fabric file) xs = Some (reply_text (listed_reply file))
+answered (calling a) [] = None
+answered (calling a) (x ∷ xs) = Some (answer_text x)
+
+-- the answers to the calls after it
+abbrev pub unanswered : Reading → List Said → List Said
+unanswered (calling a) xs = drop 1 xs
+unanswered blank xs = xs
+unanswered unread xs = xs
+unanswered (mesh_fabric x y delay) xs = xs
+unanswered (listed_fabric file) xs = xs
