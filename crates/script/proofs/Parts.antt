@@ -13,7 +13,8 @@ use Rattle.script.specs.Readings.{Reading, blank, unread, mesh_fabric, listed_fa
 use Rattle.script.specs.declared.line.Line.{Line}
 use Rattle.script.specs.declared.line.Line.TheVariants.{Blank}
 use Rattle.script.specs.Running.{asks}
-use Rattle.script.specs.Transcripts.{Session, anew, answered, begun, first, leaves, reply_to, sets, told, told_from, unanswered}
+use Rattle.script.specs.Parts.{answered, first, unanswered}
+use Rattle.script.specs.Transcripts.{Session, anew, begun, leaves, reply_to, sets, told, told_from}
 
 -- ---- lines that are told
 

@@ -7,3 +7,4 @@ pub mod Replies
 pub mod Running
 pub mod Fabrics
 pub mod Transcripts
+pub mod Parts

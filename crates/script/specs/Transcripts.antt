@@ -4,13 +4,13 @@
 --   leaves             the session after a line
 --   reply_to           what a line is answered, as text
 --   transcript_text    the whole
-use Rattle.std.specs.Prelude.{ℕ, List, [], ◌∷◌, ◌++◌, Some, None, codes, drop, Option, ◌==◌}
+use Rattle.std.specs.Prelude.{ℕ, List, [], ◌∷◌, ◌++◌, Some, None, codes, Option, ◌==◌}
 use Rattle.std.specs.List.{slice_split}
 use Rattle.fabric.specs.Network.{Network}
 use Rattle.fabric.specs.Grid.{grid_made}
 use Rattle.listed.specs.Setting.{alone, network, setting_read}
 use Rattle.jobs.specs.Jobs.{Jobs, Setting, nothing}
-use Rattle.replay.specs.Calls.{Said, ask}
+use Rattle.replay.specs.Calls.{ask}
 use Rattle.script.specs.Fabrics.{listed_reply, mesh_reply}
 use Rattle.script.specs.Readings.{Reading, blank, calling, listed_fabric, mesh_fabric, read_line, unread}
 use Rattle.script.specs.Replies.{answer_text, either, reply_text}
@@ -67,27 +67,3 @@ told_from s (text ∷ texts) = told text (reply_to s (read_line text)) ++ told_f
 -- the lines of a script are what stands between its newlines; the first plan is over a listed fabric of one node
 abbrev pub transcript_text : List ℕ → List ℕ
 transcript_text script = told_from (begun (network alone)) (slice_split (λ b. b == 10) script)
-
--- ---- a list of calls run at once
-
--- the session in which lines begin, where a fabric line begins a plan of its own
-abbrev pub first : List Reading → Session
-first [] = begun (network alone)
-first (r ∷ rs) = anew (begun (network alone)) (sets r)
-
--- what a line is answered, where these are the answers to the calls from it on
-abbrev pub answered : Reading → List Said → Option (List ℕ)
-answered blank xs = None
-answered unread xs = Some (reply_text reply.Unread)
-answered (mesh_fabric x y delay) xs = Some (reply_text (mesh_reply x y delay))
-answered (listed_fabric file) xs = Some (reply_text (listed_reply file))
-answered (calling a) [] = None
-answered (calling a) (x ∷ xs) = Some (answer_text x)
-
--- the answers to the calls after it
-abbrev pub unanswered : Reading → List Said → List Said
-unanswered (calling a) xs = drop 1 xs
-unanswered blank xs = xs
-unanswered unread xs = xs
-unanswered (mesh_fabric x y delay) xs = xs
-unanswered (listed_fabric file) xs = xs

@@ -2,6 +2,7 @@ use crate::line::Line;
 use crate::reading::read_lines;
 use crate::reply::Reply;
 use crate::showing::tell_line;
+use crate::transcript::transcript;
 use replay::calls::Call;
 use std::alloc::AllocError;
 
@@ -29,6 +30,19 @@ fn line_told(rt: HostRuntime) -> Result<(), AllocError> {
     assert_eq!(rt;
         out.as_slice(),
         b"twelve: UNREAD\nfabric mesh 3 2 1: READY 6 14\n".as_slice()
+    );
+    Ok(())
+}
+
+// A refused fabric leaves the plan, a taken one begins a new plan; blank lines print nothing.
+#[test]
+fn script_told(rt: HostRuntime) -> Result<(), AllocError> {
+    let script =
+        b"offer task 1 0 4 0 1\n\nfabric mesh 0 1 1\nholder core 0 4\nfabric mesh 2 1 3\n# a remark\nholder core 0 4\nwrite\n";
+    let out = transcript(rt.alloc(), script)?;
+    assert_eq!(rt;
+        out.as_slice(),
+        b"offer task 1 0 4 0 1: TAKEN\nfabric mesh 0 1 1: REFUSED 3 HEAD\nholder core 0 4: HELD 1 1\nfabric mesh 2 1 3: READY 2 8\nholder core 0 4: FREE\nwrite: UNREAD\n".as_slice()
     );
     Ok(())
 }

@@ -9,7 +9,8 @@ use Rattle.listed.specs.Setting.{alone, network}
 use Rattle.jobs.specs.Jobs.{nothing}
 use Rattle.replay.specs.Calls.{answers, giving}
 use Rattle.script.specs.Running.{asks}
-use Rattle.script.specs.Transcripts.{begun, first, sets, told_from}
+use Rattle.script.specs.Parts.{first}
+use Rattle.script.specs.Transcripts.{begun, sets, told_from}
 use Rattle.std.specs.Option.{option_map}
 use Rattle.script.specs.Replies.{reply_text}
 use Rattle.script.proofs.Parts.{Stands, read_texts, stands_end, stands_first, stands_line, texts_of}
