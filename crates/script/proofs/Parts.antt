@@ -6,7 +6,6 @@ use Rattle.std.specs.List.{position_or_len, AllByRecursion}
 use Rattle.std.specs.Option.{unwrap_or}
 use Rattle.std.proofs.lemmas.List.Sums.{prefix_len-le-length}
 use Rattle.fabric.specs.Network.{Network}
-use Rattle.listed.specs.Setting.{alone, network}
 use Rattle.jobs.specs.Jobs.{nothing}
 use Rattle.replay.specs.Calls.{Said, answers}
 use Rattle.script.specs.Readings.{Reading, blank, unread, mesh_fabric, listed_fabric, calling, read_line, said}
@@ -121,19 +120,19 @@ pub record Stands (xs : List Said) (out : List ℕ) (ts : List (List ℕ)) (whol
   pub makes : out ++ told_from session ts ≡ whole
   pub runs : Runs session (map read_line ts)
 
-first_jobs : (o : Option Network) → (anew (begun (network alone)) o).jobs ≡ nothing
-first_jobs None = refl
-first_jobs (Some net) = refl
+first_jobs : (net : Network) (o : Option Network) → (anew (begun net) o).jobs ≡ nothing
+first_jobs net None = refl
+first_jobs net (Some other) = refl
 
 -- how a part begins
-pub stands_first : (xs : List Said) (out : List ℕ) (ts : List (List ℕ)) → xs ≡ answers (first (map read_line ts)).setting nothing (asks (map read_line ts)) → AllByRecursion (λ q. sets q ≡ None) (drop 1 (map read_line ts)) → Stands xs out ts (out ++ told_from (begun (network alone)) ts)
-stands_first xs out [] e one = record { session = begun (network alone); waiting = e; makes = refl; runs = tt }
-stands_first xs out (t ∷ ts) e one =
-    let b = begun (network alone) in
+pub stands_first : (net : Network) (xs : List Said) (out : List ℕ) (ts : List (List ℕ)) → xs ≡ answers (first net (map read_line ts)).setting nothing (asks (map read_line ts)) → AllByRecursion (λ q. sets q ≡ None) (drop 1 (map read_line ts)) → Stands xs out ts (out ++ told_from (begun net) ts)
+stands_first net xs out [] e one = record { session = begun net; waiting = e; makes = refl; runs = tt }
+stands_first net xs out (t ∷ ts) e one =
+    let b = begun net in
     let r = read_line t in
     record {
       session = anew b (sets r);
-      waiting = e ∙ ap (λ js. answers (anew b (sets r)).setting js (asks (r ∷ map read_line ts))) (sym (first_jobs (sets r)));
+      waiting = e ∙ ap (λ js. answers (anew b (sets r)).setting js (asks (r ∷ map read_line ts))) (sym (first_jobs net (sets r)));
       makes = ap (λ l. out ++ l) (told_first b r t ts);
       runs = (keeps_first b r, one);
     }
@@ -262,13 +261,13 @@ part_one ls at n h is =
     (subst (λ k. AllByRecursion (λ r. sets r ≡ None) (map said (take k rest))) (sym is) (before_next rest)))
 
 -- the next part begins a plan, so that it is told as from the start
-pub part_told : (ls : List Line) (ts : List (Bor (List ℕ))) (at n : ℕ) (out grown whole : List ℕ)
+pub part_told : (net : Network) (ls : List Line) (ts : List (Bor (List ℕ))) (at n : ℕ) (out grown whole : List ℕ)
     → map said ls ≡ map (λ t. read_line t.now) ts → n ≡ position_or_len starts (drop (at + 1) ls)
-    → grown ≡ out ++ told_from (begun (network alone)) (texts_of (take (at + 1 + n - at) (drop at ts)))
-    → out ++ told_from (begun (network alone)) (texts_of (drop at ts)) ≡ whole
-    → grown ++ told_from (begun (network alone)) (texts_of (drop (at + 1 + n) ts)) ≡ whole
-part_told ls ts at n out grown whole read is more makes =
-    let b = begun (network alone) in
+    → grown ≡ out ++ told_from (begun net) (texts_of (take (at + 1 + n - at) (drop at ts)))
+    → out ++ told_from (begun net) (texts_of (drop at ts)) ≡ whole
+    → grown ++ told_from (begun net) (texts_of (drop (at + 1 + n) ts)) ≡ whole
+part_told net ls ts at n out grown whole read is more makes =
+    let b = begun net in
     let m = at + 1 + n - at in
     let us = texts_of (drop at ts) in
     let g : Bor (List ℕ) → Reading = λ t. read_line t.now in

@@ -2,7 +2,7 @@
 --   first                  the session in which lines begin
 --   answered, unanswered   what a line takes of the answers to the calls from it on, and what it leaves
 use Rattle.std.specs.Prelude.{ℕ, List, [], ◌∷◌, drop, Some, None, Option}
-use Rattle.listed.specs.Setting.{alone, network}
+use Rattle.fabric.specs.Network.{Network}
 use Rattle.replay.specs.Calls.{Said}
 use Rattle.script.specs.Fabrics.{listed_reply, mesh_reply}
 use Rattle.script.specs.Readings.{Reading, blank, calling, listed_fabric, mesh_fabric, unread}
@@ -10,10 +10,10 @@ use Rattle.script.specs.Replies.{answer_text, reply_text}
 use Rattle.script.specs.Transcripts.{Session, anew, begun, sets}
 use Rattle.script.specs.declared.reply.Reply.TheVariants as reply
 
--- the session in which lines begin, where a fabric line begins a plan of its own
-abbrev pub first : List Reading → Session
-first [] = begun (network alone)
-first (r ∷ rs) = anew (begun (network alone)) (sets r)
+-- the session in which lines begin: a new plan over the fabric of the first, or where that is none that is taken, over a network
+abbrev pub first : Network → List Reading → Session
+first net [] = begun net
+first net (r ∷ rs) = anew (begun net) (sets r)
 
 -- what a line is answered, where these are the answers to the calls from it on
 abbrev pub answered : Reading → List Said → Option (List ℕ)

@@ -8,7 +8,7 @@ use Rattle.std.specs.Prelude.{ℕ, List, [], ◌∷◌, ◌++◌, Some, None, co
 use Rattle.std.specs.List.{slice_split}
 use Rattle.fabric.specs.Network.{Network}
 use Rattle.fabric.specs.Grid.{grid_made}
-use Rattle.listed.specs.Setting.{alone, network, setting_read}
+use Rattle.listed.specs.Setting.{network, setting_read}
 use Rattle.jobs.specs.Jobs.{Jobs, Setting, nothing}
 use Rattle.replay.specs.Calls.{ask}
 use Rattle.script.specs.Fabrics.{listed_reply, mesh_reply}
@@ -64,6 +64,6 @@ abbrev pub told_from : Session → List (List ℕ) → List ℕ
 told_from s [] = []
 told_from s (text ∷ texts) = told text (reply_to s (read_line text)) ++ told_from (leaves s (read_line text)) texts
 
--- the lines of a script are what stands between its newlines; the first plan is over a listed fabric of one node
-abbrev pub transcript_text : List ℕ → List ℕ
-transcript_text script = told_from (begun (network alone)) (slice_split (λ b. b == 10) script)
+-- the lines of a script are what stands between its newlines; they begin with a new plan over a network
+abbrev pub transcript_text : Network → List ℕ → List ℕ
+transcript_text net script = told_from (begun net) (slice_split (λ b. b == 10) script)

@@ -18,6 +18,7 @@ use crate::reading::read_lines;
 use crate::reply::Reply;
 use crate::running::run_lines;
 use crate::showing::tell_line;
+use fabric::Fabric;
 use fabric::mesh::Mesh;
 use listed::Listed;
 use replay::calls::Answer;
@@ -50,11 +51,15 @@ fn until_next(lines: &[Line]) -> usize
     lines.iter().position(begins).unwrap_or(lines.len())
 }
 
-// What the calls of lines answer on a new plan over the fabric of the first line, or over a single node where that is none.
-fn answers_of(heap: Global, lines: &[Line]) -> Result<Vec<Answer<Vec<u8>>>, AllocError>
-    ensures { IfOk result (λ v. map (giving vec_items) v.items ≡ answers (first (map said lines.now)).setting nothing (asks (map said lines.now))) }
+// What the calls of lines answer on a new plan over the fabric of the first line, or, where that is none that is taken, over the
+// given one.
+fn answers_of<F: Fabric>(
+    heap: Global,
+    fabric: &F,
+    lines: &[Line],
+) -> Result<Vec<Answer<Vec<u8>>>, AllocError>
+    ensures { IfOk result (λ v. map (giving vec_items) v.items ≡ answers (first (F.Fabric.meaning fabric.now) (map said lines.now)).setting nothing (asks (map said lines.now))) }
 {
-    let mut fabric = Listed::new();
     match lines.first() {
         Some(Line::Mesh { x, y, delay }) => {
             if let Ok(mesh) = Mesh::new(*x, *y, *delay) {
@@ -62,11 +67,14 @@ fn answers_of(heap: Global, lines: &[Line]) -> Result<Vec<Answer<Vec<u8>>>, Allo
             }
         }
         Some(Line::Listed(file)) => {
-            let _ = fabric.set(file);
+            let mut listed = Listed::new();
+            if listed.set(file).is_ok() {
+                return run_lines(heap, &listed, lines);
+            }
         }
         _ => {}
     }
-    run_lines(heap, &fabric, lines)
+    run_lines(heap, fabric, lines)
 }
 
 // What a line is answered, where the calls from it on are answered so; a blank line, nothing.
@@ -99,26 +107,31 @@ fn tell(
 }
 
 // Adds lines with what they are answered. At most the first begins a plan, so that the calls are one list.
-fn tell_part(
+fn tell_part<F: Fabric>(
     heap: Global,
     out: &mut Vec<u8>,
+    fabric: &F,
     texts: &[&[u8]],
     lines: &[Line],
 ) -> Result<(), AllocError>
     requires read { map said lines.now ≡ map (λ text. read_line text.now) texts.now }
     requires one { AllByRecursion (λ r. sets r ≡ None) (drop 1 (map said lines.now)) }
-    ensures { OnOk result (out.new.items ≡ out.old.items ++ told_from (begun (network alone)) (map (λ text. text.now) texts.now)) }
+    ensures { OnOk result (out.new.items ≡ out.old.items ++ told_from (begun (F.Fabric.meaning fabric.now)) (map (λ text. text.now) texts.now)) }
 {
-    let mut answers = answers_of(heap, lines)?.into_iter();
+    let mut answers = answers_of(heap, fabric, lines)?.into_iter();
     for (text, line) in texts.iter().zip(lines) {
         tell(heap, out, text, reply_of(line, &mut answers))?;
     }
     Ok(())
 }
 
-// The lines of a script that are not blank, each with what it is answered.
-pub fn transcript(heap: Global, script: &[u8]) -> Result<Vec<u8>, AllocError>
-    ensures { IfOk result (λ v. v.items ≡ transcript_text script.now) }
+// The lines of a script that are not blank, each with what it is answered. The script begins with a new plan over the fabric.
+pub fn transcript_over<F: Fabric>(
+    heap: Global,
+    fabric: &F,
+    script: &[u8],
+) -> Result<Vec<u8>, AllocError>
+    ensures { IfOk result (λ v. v.items ≡ transcript_text (F.Fabric.meaning fabric.now) script.now) }
 {
     let texts = split(heap, script)?;
     let lines = read_lines(heap, &texts)?;
@@ -127,8 +140,15 @@ pub fn transcript(heap: Global, script: &[u8]) -> Result<Vec<u8>, AllocError>
     // the lines from one that begins a plan up to the next are run as one list
     while at < lines.len() {
         let end = at + 1 + until_next(&lines[at + 1..]);
-        tell_part(heap, &mut out, &texts[at..end], &lines[at..end])?;
+        tell_part(heap, &mut out, fabric, &texts[at..end], &lines[at..end])?;
         at = end;
     }
     Ok(out)
+}
+
+// The same of a script that begins on a single node.
+pub fn transcript(heap: Global, script: &[u8]) -> Result<Vec<u8>, AllocError>
+    ensures { IfOk result (λ v. v.items ≡ transcript_text (network alone) script.now) }
+{
+    transcript_over(heap, &Listed::new(), script)
 }
