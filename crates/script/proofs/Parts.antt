@@ -120,6 +120,7 @@ pub record Stands (xs : List Said) (out : List ℕ) (ts : List (List ℕ)) (whol
   pub makes : out ++ told_from session ts ≡ whole
   pub runs : Runs session (map read_line ts)
 
+-- the session in which lines begin holds nothing
 first_jobs : (net : Network) (o : Option Network) → (anew (begun net) o).jobs ≡ nothing
 first_jobs net None = refl
 first_jobs net (Some other) = refl
@@ -186,12 +187,14 @@ image_at : {X Y Z : Type 0} (f : X → Z) (g : Y → Z) (xs : List X) (ys : List
 image_at f g xs ys i x y e hx hy =
     sym (get_or-map f xs i x (f x) hx) ∙ ap (λ l. get_or l i (f x)) e ∙ get_or-map g ys i y (f x) hy
 
+-- and the lists are of one length
 image_length : {X Y Z : Type 0} (f : X → Z) (g : Y → Z) (xs : List X) (ys : List Y) → map f xs ≡ map g ys → length xs ≡ length ys
 image_length f g xs ys e = sym (length-map xs f) ∙ ap length e ∙ length-map ys g
 
 abbrev pub texts_of : List (Bor (List ℕ)) → List (List ℕ)
 texts_of ts = map (λ t. t.now) ts
 
+-- a text is read through its reference
 pub read_texts : (ts : List (Bor (List ℕ))) → map read_line (texts_of ts) ≡ map (λ t. read_line t.now) ts
 read_texts [] = refl
 read_texts (t ∷ ts) = ap (λ l. read_line t.now ∷ l) (read_texts ts)
@@ -215,6 +218,7 @@ stands_end ls ts i xs out whole read is st =
     let long = image_length said (λ u. read_line u.now) ls ts read in
     stands_all xs out whole (subst (λ us. Stands xs out us whole) (at_drop_all texts_of ts i (omega (arith, long, is))) st)
 
+-- a line begins a plan
 abbrev pub starts : Line → Bool
 starts l = is_some (sets (said l))
 
@@ -283,5 +287,6 @@ part_told net ls ts at n out grown whole read is more makes =
     ∙ ap (λ l. out ++ l) (sym (told_parts b m us (subst Anew same next)))
     ∙ makes
 
+-- all that is left after a place
 pub rest_taken : {X : Type 0} (n : ℕ) (xs : List X) → take (length xs - n) (drop n xs) ≡ drop n xs
 rest_taken n xs = take_all (length xs - n) (drop n xs) (omega (arith, length-drop n xs))

@@ -2,10 +2,10 @@
 ghost use Rattle.jobs.specs.Jobs.{nothing};
 ghost use Rattle.listed.specs.Setting.{alone, network};
 ghost use Rattle.replay.specs.Calls.{answers, giving};
+ghost use Rattle.script.specs.Parts.{answered, first, unanswered};
 ghost use Rattle.script.specs.Readings.{read_line, said};
 ghost use Rattle.script.specs.Replies.{reply_text};
 ghost use Rattle.script.specs.Running.{asks};
-ghost use Rattle.script.specs.Parts.{answered, first, unanswered};
 ghost use Rattle.script.specs.Transcripts.{begun, sets, told, told_from, transcript_text};
 ghost use Rattle.std.specs.List.{position_or_len, slice_split, AllByRecursion};
 ghost use Rattle.std.specs.Option.{option_map};
