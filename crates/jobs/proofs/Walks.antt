@@ -1,9 +1,9 @@
 -- What packets have yet to take on their way, from a place of the route on.
-use Rattle.std.proofs.Common.{◌≡◌, ℕ, ◌+◌, ◌*◌, ◌≤◌, List, [], ◌∷◌, ◌++◌, Some, None, Option, sym, refl, ap, ◌∙◌, add-mul, append_assoc, arith}
+use Rattle.std.proofs.Common.{◌≡◌, ℕ, ◌+◌, ◌*◌, ◌≤◌, List, [], ◌∷◌, ◌++◌, length, Some, None, Option, sym, refl, ap, ◌∙◌, add-mul, append_assoc, arith}
 use Rattle.std.specs.Option.{option_map}
 use Rattle.std.proofs.lemmas.List.{at_drop_all}
 use Rattle.holds.specs.Held.{span}
-use Rattle.fabric.specs.Network.{route_place}
+use Rattle.fabric.specs.Network.{Lawful, route_place}
 use Rattle.fabric.proofs.Laws.{rest, rest_more, no_place}
 use Rattle.records.specs.declared.record.Task.{Task}
 use Rattle.records.specs.declared.record.Message.{Message}
@@ -32,6 +32,15 @@ ended (Some r) i e k h = at_drop_all (λ xs. xs) r k (omega (arith, no_place r i
 -- past the last link nothing is taken
 pub takes_none : (g : Setting) (w : Way) (i : ℕ) → None ≡ route_place (g.network.route w.from w.to) i → (k : ℕ) → i ≤ k → takes_from g w k ≡ []
 takes_none g w i e k h = ap (λ ls. along w.hop ls (w.start + k * w.hop) w.period w.width) (ended (g.network.route w.from w.to) i e k h)
+
+past_all : (o : Option (List ℕ)) (i : ℕ) → ((r : List ℕ) → o ≡ Some r → length r ≤ i) → rest o i ≡ []
+past_all None i h = refl
+past_all (Some r) i h = at_drop_all (λ xs. xs) r i (h r refl)
+
+-- from the longest route of the fabric on, nothing is taken
+pub takes_past : (g : Setting) (w : Way) {longest : ℕ} → Lawful longest g.network → (i : ℕ) → longest ≤ i → takes_from g w i ≡ []
+takes_past g w laws i h =
+    ap (λ ls. along w.hop ls (w.start + i * w.hop) w.period w.width) (past_all (g.network.route w.from w.to) i (λ r e. omega (arith, laws.short w.from w.to r e, h)))
 
 -- a message's way takes what its packets take
 pub way_is : (g : Setting) (s d : Task) (m : Message) (w : Way) → IsWay g s d m w → way_takes g w ≡ packet_takes g s d m

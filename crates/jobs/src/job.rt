@@ -1,16 +1,19 @@
 // What a held job is: it has a name, and it takes places.
 ghost use Rattle.jobs.specs.Boards.{setting_of};
+ghost use Rattle.jobs.specs.Meetings.{earliest_from, meetings};
 ghost use Rattle.jobs.specs.Takes.{Take, message_takes, task_takes};
-ghost use Rattle.jobs.specs.Ways.{taken};
-ghost use Rattle.std.specs.Prelude.{◌≡◌, List};
+ghost use Rattle.jobs.specs.Ways.{stay_take, taken};
+ghost use Rattle.std.specs.Prelude.{◌≡◌, List, map};
 
 use crate::board::Board;
-use crate::stay::Stays;
+use crate::meeting::nearest_to;
+use crate::stay::{Stay, Stays};
 use crate::task::stay_of;
 use arrayvec::ArrayVec;
 use fabric::Fabric;
 use records::named::Named;
 use records::record::{Message, Task};
+use refusals::refusal::Meeting;
 
 // A kind of held job. What packets take hangs on a board; what a task takes, on nothing.
 pub(crate) trait Job<B>: Named + Copy {
@@ -19,6 +22,11 @@ pub(crate) trait Job<B>: Named + Copy {
 
     fn stays(&self, board: &B) -> Stays
         ensures { taken result ≡ takes board.now self.now };
+
+    // The earlier of `best` and the meetings of an offered job's stays with this job. It goes over what the job takes and makes no
+    // list of it, since each offer asks this of each held job.
+    fn nearest(&self, board: &B, best: Option<Meeting>, own: &[Stay]) -> Option<Meeting>
+        ensures { result ≡ earliest_from best (meetings (Self.Named.label self.now) (map stay_take own.now) (takes board.now self.now)) };
 }
 
 impl Job<()> for Task {
@@ -26,6 +34,10 @@ impl Job<()> for Task {
 
     fn stays(&self, _board: &()) -> Stays {
         Stays::Core([stay_of(self)])
+    }
+
+    fn nearest(&self, _board: &(), best: Option<Meeting>, own: &[Stay]) -> Option<Meeting> {
+        nearest_to(best, own, self.name, &stay_of(self))
     }
 }
 
@@ -38,5 +50,17 @@ impl<'a, F: Fabric> Job<Board<'a, F>> for Message {
                 .way_of(self)
                 .map_or_else(ArrayVec::new, |way| way.stays(board.fabric)),
         )
+    }
+
+    fn nearest(
+        &self,
+        board: &Board<'a, F>,
+        best: Option<Meeting>,
+        own: &[Stay],
+    ) -> Option<Meeting> {
+        let Some(way) = board.way_of(self) else {
+            return best;
+        };
+        way.nearest(board.fabric, best, own, self.name)
     }
 }

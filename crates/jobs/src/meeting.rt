@@ -21,7 +21,7 @@ fn shared_instant(one: Option<Hold>, other: Option<Hold>) -> Option<u64>
 }
 
 // Where an offered job's stay meets that of the held job of this name.
-pub(crate) fn meeting_at(name: u16, own: &Stay, held: &Stay) -> Option<Meeting>
+fn meeting_at(name: u16, own: &Stay, held: &Stay) -> Option<Meeting>
     ensures { result ≡ met name (stay_take own.now) (stay_take held.now) }
 {
     if own.place != held.place {
@@ -45,33 +45,19 @@ fn earlier(one: Option<Meeting>, other: Option<Meeting>) -> Option<Meeting>
     }
 }
 
-// The earlier of `best` and the meetings of one stay with those of a held job.
-fn nearest_to(best: Option<Meeting>, own: &Stay, name: u16, held: &[Stay]) -> Option<Meeting>
-    ensures { result ≡ earliest_from best (map (met name (stay_take own.now)) (map stay_take held.now)) }
-{
-    held.iter().fold(best, |best, stay| {
-        earlier(best, meeting_at(name, own, stay))
-    })
-}
-
-// The earlier of `best` and the meetings of an offered job's stays with those of a held one.
-fn nearest(best: Option<Meeting>, own: &[Stay], name: u16, held: &[Stay]) -> Option<Meeting>
-    ensures { result ≡ earliest_from best (meetings name (map stay_take own.now) (map stay_take held.now)) }
-{
-    own.iter()
-        .fold(best, |best, stay| nearest_to(best, stay, name, held))
-}
-
-// The earlier of `best` and the meetings of an offered job's stays with those of one held job.
-fn nearest_job<B, J: Job<B>>(
-    board: &B,
+// The earlier of `best` and the meetings of an offered job's stays with one stay of the held job of this name.
+pub(crate) fn nearest_to(
     best: Option<Meeting>,
     own: &[Stay],
-    job: &J,
+    name: u16,
+    held: &Stay,
 ) -> Option<Meeting>
-    ensures { result ≡ earliest_from best (meetings (J.Named.label job.now) (map stay_take own.now) (J.Job.takes board.now job.now)) }
+    ensures { result ≡ earliest_from best (map (λ x. met name x (stay_take held.now)) (map stay_take own.now)) }
 {
-    nearest(best, own, job.name(), job.stays(board).as_slice())
+    own.iter().fold(
+        best,
+        |best, stay| earlier(best, meeting_at(name, stay, held)),
+    )
 }
 
 // The first meeting of an offered job's stays with those of the held jobs.
@@ -79,5 +65,5 @@ pub(crate) fn first_among<B, J: Job<B>>(board: &B, held: &[J], own: &[Stay]) -> 
     ensures { result ≡ first_met (map stay_take own.now) (map (job_of J.Named.label (J.Job.takes board.now)) held.now) }
 {
     held.iter()
-        .fold(None, |best, job| nearest_job(board, best, own, job))
+        .fold(None, |best, job| job.nearest(board, best, own))
 }

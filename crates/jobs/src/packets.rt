@@ -1,10 +1,12 @@
 // Packets between two tasks: the way that they go, and their stays on its links.
 ghost use Rattle.fabric.specs.Network.{route_place};
 ghost use Rattle.jobs.specs.Jobs.{over};
+ghost use Rattle.jobs.specs.Meetings.{earliest_from, meetings};
 ghost use Rattle.jobs.specs.Ways.{IsWay, StaysOn, stay_take, way_takes};
 ghost use Rattle.std.specs.Prelude.{◌≡◌, ◌≤◌, map, None, MatchOption};
 
 use crate::board::Ends;
+use crate::meeting::nearest_to;
 use crate::place::Place;
 use crate::stay::Stay;
 use crate::way::Way;
@@ -12,6 +14,7 @@ use arrayvec::ArrayVec;
 use fabric::Fabric;
 use holds::Hold;
 use records::record::Message;
+use refusals::refusal::Meeting;
 
 impl Way {
     // The way of a message between two tasks, or none where the fabric has no route.
@@ -61,5 +64,27 @@ impl Way {
             }
         }
         stays
+    }
+
+    // The earlier of `best` and the meetings of an offered job's stays with those of packets on this way, of the message of this name.
+    pub(crate) fn nearest<F: Fabric>(
+        &self,
+        fabric: &F,
+        best: Option<Meeting>,
+        own: &[Stay],
+        name: u16,
+    ) -> Option<Meeting>
+        ensures { result ≡ earliest_from best (meetings name (map stay_take own.now) (way_takes (over F.Fabric.meaning fabric.now) self.now)) }
+    {
+        let longest = F::reach();
+        let mut best = best;
+        // a loop, since it ends at the first place past the last link
+        for place in 0..longest {
+            let Some(stay) = self.stay_on(fabric, place) else {
+                return best;
+            };
+            best = nearest_to(best, own, name, &stay);
+        }
+        best
     }
 }
