@@ -21,6 +21,7 @@ fn shared_instant(one: Option<Hold>, other: Option<Hold>) -> Option<u64>
 }
 
 // Where an offered job's stay meets that of the held job of this name.
+#[inline(always)]
 fn meeting_at(name: u16, own: &Stay, held: &Stay) -> Option<Meeting>
     ensures { result ≡ met name (stay_take own.now) (stay_take held.now) }
 {
@@ -46,6 +47,7 @@ fn earlier(one: Option<Meeting>, other: Option<Meeting>) -> Option<Meeting>
 }
 
 // The earlier of `best` and the meetings of an offered job's stays with one stay of the held job of this name.
+#[inline(always)]
 pub(crate) fn nearest_to(
     best: Option<Meeting>,
     own: &[Stay],

@@ -37,6 +37,7 @@ impl Way {
     }
 
     // The stay of packets on the link at a place of their way.
+    #[inline(always)]
     fn stay_on<F: Fabric>(&self, fabric: &F, place: usize) -> Option<Stay>
         requires { place ≤ 64 }
         ensures { MatchOption result (None ≡ route_place ((F.Fabric.meaning fabric.now).route self.now.from self.now.to) place) (StaysOn (F.Fabric.meaning fabric.now) self.now place) }

@@ -34,10 +34,11 @@ impl Mesh {
         if node >= self.nodes() {
             return None;
         }
-        let columns = self.columns as usize;
+        // a division of bytes, which is much faster than one of lengths
+        let node = node as u8;
         Some(Spot {
-            x: node % columns,
-            y: node / columns,
+            x: (node % self.columns) as usize,
+            y: (node / self.columns) as usize,
         })
     }
 
