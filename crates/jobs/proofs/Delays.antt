@@ -1,13 +1,11 @@
 -- A message whose delay grows: what refuses it, and for how long.
-use Rattle.std.proofs.Common.{◌≡◌, ℕ, ◌+◌, ◌*◌, ◌<◌, ◌≤◌, Bool, true, false, cond, ◌&&◌, ltb, leb, List, map, length, ℤ, pos, ◌-ℤ◌, is_some, Some, None, Option, sym, refl, ap, ◌∙◌, subst, mul-le-mul, arith}
+use Rattle.std.proofs.Common.{◌≡◌, ℕ, ◌+◌, ◌*◌, ◌<◌, ◌≤◌, Bool, true, false, List, [], map, length, min, ℤ, pos, negsuc, nat_abs, Some, None, Option, sym, refl, ap, ◌∙◌, subst, mul-le-mul, le_refl, zero-add, arith}
 use Rattle.std.specs.Option.{option_map}
+use Rattle.std.specs.Prelude.{int_lt}
 use Rattle.std.proofs.lemmas.Int.{ints}
-use Rattle.std.proofs.lemmas.Bool.{both_ways, le-leb}
+use Rattle.std.proofs.lemmas.Bool.{both_ways}
 use Rattle.fabric.proofs.Laws.{length_route}
 use Rattle.holds.specs.Held.{flowing}
-use Rattle.holds.specs.Limits.{latest, longest}
-use Rattle.holds.specs.Slack.{Flow}
-use Rattle.holds.specs.Span.{Span}
 use Rattle.records.specs.declared.record.Message.{Message}
 use Rattle.records.specs.declared.record.Task.{Task}
 use Rattle.refusals.specs.declared.refusal.Meeting.{Meeting}
@@ -17,7 +15,7 @@ use Rattle.jobs.specs.declared.way.Way.{Way}
 use Rattle.jobs.specs.Jobs.{Jobs, Setting}
 use Rattle.jobs.specs.Meetings.{HeldJob, first_met, held_message}
 use Rattle.jobs.specs.Open.{message_at}
-use Rattle.jobs.specs.Placings.{clear, on_way}
+use Rattle.jobs.specs.Placings.{InTime, clear, on_way}
 use Rattle.jobs.specs.Reading.{arrival, due, lateness, message_slack, slack_of, slack_over}
 use Rattle.jobs.specs.Checks.{packet_refusal}
 use Rattle.jobs.specs.Rules.{late}
@@ -26,55 +24,21 @@ use Rattle.jobs.specs.Waits.{StillMet, put_off}
 use Rattle.jobs.specs.Ways.{IsWay, way_slack, way_takes}
 use Rattle.jobs.proofs.Limits.{arrives_near}
 use Rattle.jobs.proofs.Searches.{FailsFrom}
+use Rattle.jobs.proofs.Timely.{LateBy, after_delay}
 use Rattle.jobs.proofs.Waits.{along_later}
 use Rattle.jobs.proofs.Walks.{way_is}
 
--- ---- lateness
-
--- what arrives later is late if what arrives before is
-negative : (x a b : ℕ) → a ≤ b → clear (lateness (Some (pos x -ℤ pos a))) ≡ false → clear (lateness (Some (pos x -ℤ pos b))) ≡ false
-negative x a b l h = grind (arith, ints)
-
--- a slack below 0 stays below 0 where the packets arrive later, within the limits
-later_late : (a b by p : ℕ) (reader : Option Span) → a ≤ b → b ≤ latest → clear (lateness (slack_of (flowing a by p) reader)) ≡ false
-    → clear (lateness (slack_of (flowing b by p) reader)) ≡ false
-later_late a b by p reader l fits h =
-    subst (λ o. clear (lateness (slack_of o reader)) ≡ false) (sym (flowing_at b fits))
-    (go rest reader (subst (λ o. clear (lateness (slack_of o reader)) ≡ false) (flowing_at a (omega arith)) h))
-  where
-    rest : Bool
-    rest = leb by latest && (ltb 0 p && leb p longest)
-
-    at : ℕ → Flow
-    at x = record { arrival = x; due = by; period = p }
-
-    flowing_at : (x : ℕ) → x ≤ latest → flowing x by p ≡ cond rest (Some (at x)) None
-    flowing_at x k = ap (λ t. cond (t && rest) (Some (at x)) None) (le-leb x latest k)
-
-    go : (t : Bool) (o : Option Span) → clear (lateness (slack_of (cond t (Some (at a)) None) o)) ≡ false → clear (lateness (slack_of (cond t (Some (at b)) None) o)) ≡ false
-    go false o h = absurd (both_ways true h refl)
-    go true None h = absurd (both_ways true h refl)
-    go true (Some r) h = negative _ a b l h
-
-none_some : {X : Type 0} (o : Option X) → false ≡ is_some o → o ≡ None
-none_some None e = refl
-none_some (Some x) e = absurd (both_ways true (sym e) refl)
-
-some_clear : {X : Type 0} (o : Option X) → true ≡ is_some o → clear o ≡ false
-some_clear None e = e
-some_clear (Some x) e = refl
-
 -- ---- one message
+
+late_refuses : (o : Option ℤ) (fm : Option Meeting) → clear o ≡ false → clear (late o (option_map message_fault.Meets fm)) ≡ false
+late_refuses None fm h = absurd (both_ways true h refl)
+late_refuses (Some v) fm h = refl
 
 -- a meeting refuses, whether late or not
 met_refuses : (o : Option ℤ) (fm : Option Meeting) → clear fm ≡ false → clear (late o (option_map message_fault.Meets fm)) ≡ false
 met_refuses None None h = h
 met_refuses None (Some x) h = refl
 met_refuses (Some v) fm h = refl
-
-late_refuses : (o : Option ℤ) (fm : Option Meeting) → clear o ≡ false → clear (late o (option_map message_fault.Meets fm)) ≡ false
-late_refuses None fm h = absurd (both_ways true h refl)
-late_refuses (Some v) fm h = refl
 
 module _ (g : Setting) (js : Jobs) (s d : Task) (m : OpenMessage) where
   -- whether nothing refuses a delay
@@ -86,6 +50,14 @@ module _ (g : Setting) (js : Jobs) (s d : Task) (m : OpenMessage) where
 
   pub no_route : g.network.route s.core d.core ≡ None → (v : ℕ) → free v ≡ false
   no_route e v = ap (λ o. clear (on_way g js (message_at m v) s d o)) e
+
+  -- past the delays that are in time all are refused
+  pub past_late : (n : ℕ) → ((r : List ℕ) → g.network.route s.core d.core ≡ Some r → InTime g s d m (length r) n) → (y : ℕ) → n ≤ y → y < s.period → free y ≡ false
+  past_late n in_time y h l = go (g.network.route s.core d.core) refl
+    where
+      go : (o : Option (List ℕ)) → g.network.route s.core d.core ≡ o → free y ≡ false
+      go None e = no_route e y
+      go (Some r) e = ap (λ o. clear (on_way g js (message_at m y) s d o)) e ∙ late_refuses _ _ ((in_time r e).late y h l)
 
   -- along a route, against the way of the message at one delay
   module _ (v : ℕ) (w : Way) (is : IsWay g s d (message_at m v) w) (r : List ℕ) (e : g.network.route s.core d.core ≡ Some r) (long : length r ≡ w.links) where
@@ -110,23 +82,24 @@ module _ (g : Setting) (js : Jobs) (s d : Task) (m : OpenMessage) where
     soon = omega (arith, is.start, w.soon)
 
     -- neither late nor met
-    route_free : lateness (way_slack w d (message_at m v)) ≡ None → first_met (way_takes g w) held ≡ None → free v ≡ true
+    route_free : lateness (message_slack g.network.delay s d (message_at m v) (length r)) ≡ None → first_met (way_takes g w) held ≡ None → free v ≡ true
     route_free timely clear-way =
-        free_is v ∙ ap (λ o. clear (late o (option_map message_fault.Meets (first_met (packet_takes g s d (message_at m v)) held)))) (ap lateness (sym slack_is) ∙ timely)
+        free_is v ∙ ap (λ o. clear (late o (option_map message_fault.Meets (first_met (packet_takes g s d (message_at m v)) held)))) timely
         ∙ ap (λ o. clear (option_map message_fault.Meets o)) (ap (λ ts. first_met ts held) (sym takes_is) ∙ clear-way)
 
     -- met
     route_met : clear (first_met (way_takes g w) held) ≡ false → free v ≡ false
     route_met h = free_is v ∙ met_refuses _ _ (subst (λ ts. clear (first_met ts held) ≡ false) takes_is h)
 
-    -- late from here on
-    route_late : m.width < 4294967296 → clear (lateness (way_slack w d (message_at m v))) ≡ false → FailsFrom free v None
-    route_late narrow h = λ n fits.
-        free_is (v + n)
-        ∙ late_refuses _ _ (later_late (arrival (leaves s (message_at m v)) (length r) g.network.delay m.width)
-        (arrival (leaves s (message_at m (v + n))) (length r) g.network.delay m.width) (due m.kind s.period) s.period (task_hold d) (omega arith)
-        (omega (arith, near, soon, arrives_near (leaves s (message_at m (v + n))) (length r) g.network.delay m.width))
-        (subst (λ o. clear (lateness o) ≡ false) slack_is h))
+    -- late by more delay
+    late_more : m.width < 4294967296 → (n : ℕ) → v + n < 4294967296 → LateBy n (way_slack w d (message_at m v)) (message_slack g.network.delay s d (message_at m (v + n)) (length r))
+    late_more narrow n fits =
+        let by = due m.kind s.period in
+        let now = arrival (leaves s (message_at m v)) (length r) g.network.delay m.width in
+        let later : now + n ≡ arrival (leaves s (message_at m (v + n))) (length r) g.network.delay m.width = omega arith in
+        subst (λ o. LateBy n o (message_slack g.network.delay s d (message_at m (v + n)) (length r))) (sym slack_is)
+        (subst (λ x. LateBy n (message_slack g.network.delay s d (message_at m v) (length r)) (slack_of (flowing x by s.period) (task_hold d))) later
+        (after_delay by s.period (task_hold d) now n (omega (arith, near, soon, later, arrives_near (leaves s (message_at m (v + n))) (length r) g.network.delay m.width))))
 
     -- at a later delay packets take the same links later
     takes_later : (n : ℕ) → v + n < 4294967296 → packet_takes g s d (message_at m (v + n)) ≡ map (put_off n) (packet_takes g s d (message_at m v))
@@ -155,15 +128,58 @@ module _ (g : Setting) (js : Jobs) (s d : Task) (m : OpenMessage) where
     route : (r : List ℕ) × (g.network.route s.core d.core ≡ Some r) × (length r ≡ w.links)
     route = length_route (g.network.route s.core d.core) w.links is.links
 
-    pub way_free : false ≡ is_some (lateness (way_slack w d x)) → None ≡ first_met (way_takes g w) held → free v ≡ true
-    way_free timely clear-way = route_free v w is route.0 route.1 route.2 (none_some _ (subst (λ (y : Message). false ≡ is_some (lateness (way_slack w d y))) ex timely)) (sym clear-way)
+    pub way_free : (n : ℕ) → ((r : List ℕ) → g.network.route s.core d.core ≡ Some r → InTime g s d m (length r) n) → v < n → None ≡ first_met (way_takes g w) held → free v ≡ true
+    way_free n in_time h clear-way = route_free v w is route.0 route.1 route.2 ((in_time route.0 route.1).timely v h) (sym clear-way)
 
-    pub way_late : m.width < 4294967296 → true ≡ is_some (lateness (way_slack w d x)) → FailsFrom free v None
-    way_late narrow h =
-        route_late v w is route.0 route.1 route.2 narrow (some_clear _ (subst (λ (y : Message). true ≡ is_some (lateness (way_slack w d y))) ex h))
+    pub way_within : (n : ℕ) → ((r : List ℕ) → g.network.route s.core d.core ≡ Some r → InTime g s d m (length r) n) → n ≤ s.period
+    way_within n in_time = (in_time route.0 route.1).within
 
     pub way_met : (o : Meeting) → Some o ≡ first_met (way_takes g w) held → free v ≡ false
     way_met o e = route_met v w is route.0 route.1 route.2 (sym (ap clear e))
 
     pub way_meets : (wait : Option ℕ) → StillMet (way_takes g w) held wait → FailsFrom free v wait
     way_meets = route_meets v w is route.0 route.1 route.2
+
+-- ---- how many delays are in time, by the slack with none
+
+module _ (g : Setting) (s d : Task) (m : OpenMessage) (x : Message) (w : Way) (ex : x ≡ message_at m 0) (told : IsWay g s d x w)
+    (narrow : m.width < 4294967296) (few : s.period < 4294967296) (r : List ℕ) (e : g.network.route s.core d.core ≡ Some r) where
+  abbrev late_with : ℕ → Option ℤ
+  late_with n = message_slack g.network.delay s d (message_at m n) (length r)
+
+  by_delay : (n : ℕ) → n < 4294967296 → LateBy n (way_slack w d x) (late_with n)
+  by_delay n fits =
+      let is = subst (λ (y : Message). IsWay g s d y w) ex told in
+      let long = length_route (g.network.route s.core d.core) w.links is.links in
+      let same : r ≡ long.0 = cc (e, long.1) in
+      subst (λ (y : Message). LateBy n (way_slack w d y) (late_with n)) (sym ex)
+      (subst (λ k. LateBy n (way_slack w d (message_at m 0)) (late_with k)) (zero-add n)
+      (late_more g (record { tasks = []; messages = [] }) s d m 0 w is r e (ap length same ∙ long.2) narrow n (omega (arith, fits))))
+
+  pub never_late : way_slack w d x ≡ None → InTime g s d m (length r) s.period
+  never_late none =
+      record {
+        within = le_refl s.period;
+        timely = λ v h. subst (λ o. LateBy v o (late_with v)) none (by_delay v (omega (arith, h, few)));
+        late = λ v h k. absurd (omega (arith, h, k));
+      }
+
+  always_late : (z : ℤ) → way_slack w d x ≡ Some z → int_lt z (pos 0) ≡ true → InTime g s d m (length r) 0
+  always_late z some below =
+      record {
+        within = omega arith;
+        timely = λ v h. absurd (omega (arith, h));
+        late = λ v h k. (subst (λ o. LateBy v o (late_with v)) some (by_delay v (omega (arith, k, few)))).0 (grind (arith, ints, below));
+      }
+
+  spare_as : (k n : ℕ) → way_slack w d x ≡ Some (pos k) → n ≡ min (k + 1) s.period → InTime g s d m (length r) n
+  spare_as k n some is =
+      record {
+        within = omega (arith, is);
+        timely = λ v h. (subst (λ o. LateBy v o (late_with v)) some (by_delay v (omega (arith, h, is, few)))).1 (grind (arith, ints, h, is));
+        late = λ v h l. (subst (λ o. LateBy v o (late_with v)) some (by_delay v (omega (arith, l, few)))).0 (grind (arith, ints, h, l, is));
+      }
+
+  pub covered : (z : ℤ) (n : ℕ) → way_slack w d x ≡ Some z → (int_lt z (pos 0) ≡ true → n ≡ 0) → (int_lt z (pos 0) ≡ false → n ≡ min (nat_abs z + 1) s.period) → InTime g s d m (length r) n
+  covered (pos k) n some none enough = spare_as k n some (enough (grind (arith, ints)))
+  covered (negsuc k) n some none enough = subst (InTime g s d m (length r)) (sym (none refl)) (always_late (negsuc k) some refl)

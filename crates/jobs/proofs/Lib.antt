@@ -8,3 +8,4 @@ pub mod Waits
 pub mod Delays
 pub mod Checked
 pub mod Chains
+pub mod Timely

@@ -1,16 +1,19 @@
 // Messages: their limits, the links that their packets take and when, and their slack.
 ghost use Rattle.jobs.specs.Boards.{setting_of};
 ghost use Rattle.jobs.specs.Drops.{in_use, names_task};
+ghost use Rattle.jobs.specs.Jobs.{over};
 ghost use Rattle.jobs.specs.Meetings.{first_met, held_message};
+ghost use Rattle.jobs.specs.Placings.{InTime};
 ghost use Rattle.jobs.specs.Reading.{arrival, lateness};
 ghost use Rattle.jobs.specs.Rules.{message_timely};
 ghost use Rattle.jobs.specs.Slacks.{slack_among};
 ghost use Rattle.jobs.specs.Takes.{message_takes};
 ghost use Rattle.jobs.specs.Ways.{takes_of, way_slack, way_takes};
-ghost use Rattle.std.specs.Prelude.{◌≡◌, ◌≤◌, map};
+ghost use Rattle.std.specs.Prelude.{◌≡◌, ℕ, ◌+◌, ◌≤◌, true, false, List, length, map, min, pos, nat_abs, Some, None, MatchOption, int_lt};
 
-use crate::board::Board;
+use crate::board::{Board, Ends};
 use crate::meeting::first_among;
+use crate::open::OpenMessage;
 use crate::task;
 use crate::way::Way;
 use fabric::Fabric;
@@ -51,6 +54,31 @@ fn slack_on(way: &Way, destination: &Task, m: &Message) -> Option<i64>
     };
     let packets = Deliveries::new(arrives(way), due, way.period)?;
     Some(least_slack(packets, task::hold_of(destination)?))
+}
+
+// How many delays below a period a slack covers.
+fn delays_within(slack: i64, period: u32) -> u32
+    ensures late { int_lt slack (pos 0) ≡ true → result ≡ 0 }
+    ensures spare { int_lt slack (pos 0) ≡ false → result ≡ min (nat_abs slack + 1) period }
+{
+    if slack < 0 {
+        return 0;
+    }
+    (slack.unsigned_abs() + 1).min(u64::from(period)) as u32
+}
+
+// How many delays of a message, from 0 on, are in time: each cycle of delay costs one of the slack that it has with none. None
+// where the fabric has no route.
+pub(crate) fn delays_in_time<F: Fabric>(fabric: &F, ends: &Ends, m: &OpenMessage) -> Option<u32>
+    ensures { MatchOption result ((F.Fabric.meaning fabric.now).route ends.now.source.core ends.now.destination.core ≡ None) (λ n. (r : List ℕ) → (F.Fabric.meaning fabric.now).route ends.now.source.core ends.now.destination.core ≡ Some r → InTime (over F.Fabric.meaning fabric.now) ends.now.source ends.now.destination m.now (length r) n) }
+{
+    let at_once = m.at(0);
+    let way = Way::between(fabric, ends, &at_once)?;
+    let all = ends.source.period;
+    let Some(slack) = slack_on(&way, &ends.destination, &at_once) else {
+        return Some(all);
+    };
+    Some(delays_within(slack, all))
 }
 
 // The least slack of a message where it is below 0.

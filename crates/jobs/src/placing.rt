@@ -2,7 +2,7 @@
 //
 // From a value at which the job meets a held one, the search goes on at the first value that is clear of that one. The searches
 // for a phase and for a delay stand each by itself: a closure that tries a value would have to hand back its job, its way and
-// its meeting, and both answers of the lateness that only a delay has.
+// its meeting. Which delays are in time is known before the search.
 ghost use Rattle.std.specs.Prelude.{◌≡◌, ◌+◌, ◌-◌, map};
 ghost use Rattle.holds.specs.Search.{first_from};
 ghost use Rattle.jobs.specs.Boards.{job_of, setting_of};
@@ -16,7 +16,7 @@ ghost use Rattle.jobs.specs.Ways.{stay_take};
 use crate::board::{Board, Ends};
 use crate::job::Job;
 use crate::meeting::first_among;
-use crate::message::late_by;
+use crate::message::delays_in_time;
 use crate::open::{OpenMessage, OpenTask};
 use crate::stay::Stay;
 use crate::task::{first_task_meeting, stay_of};
@@ -89,14 +89,12 @@ impl<'a, F: Fabric> Board<'a, F> {
     pub fn first_delay(&self, held: &[Message], ends: &Ends, m: &OpenMessage) -> Option<u32>
         ensures { result ≡ first_from (λ v. clear (on_way (setting_of F.Fabric.meaning self.now) (record { tasks = self.now.tasks.now; messages = held.now }) (message_at m.now v) ends.now.source ends.now.destination ((F.Fabric.meaning self.now.fabric.now).route ends.now.source.core ends.now.destination.core))) ends.now.source.period 0 }
     {
+        let count = delays_in_time(self.fabric, ends, m)?;
         let mut delay: u32 = 0;
         // a `while` for the same reason
-        while delay < ends.source.period {
+        while delay < count {
             let message = m.at(delay);
             let way = Way::between(self.fabric, ends, &message)?;
-            if late_by(&way, &ends.destination, &message).is_some() {
-                return None;
-            }
             let stays = way.stays(self.fabric);
             let own = stays.as_slice();
             let Some(meeting) = first_among(self, held, own) else {

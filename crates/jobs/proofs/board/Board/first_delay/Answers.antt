@@ -1,4 +1,4 @@
-use Rattle.std.proofs.Common.{◌≡◌, ℕ, ◌+◌, ◌<◌, ◌≤◌, Bool, false, List, map, is_some, Some, None, Option, ap, ◌∙◌, ⊎_elim, arith}
+use Rattle.std.proofs.Common.{◌≡◌, ℕ, ◌+◌, ◌<◌, ◌≤◌, Bool, false, List, map, Some, None, Option, ap, ◌∙◌, ⊎_elim, arith}
 use Rattle.std.proofs.lemmas.Bool.{cases_lt}
 use Rattle.holds.specs.Search.{first_from}
 use Rattle.refusals.specs.declared.refusal.Meeting.{Meeting}
@@ -8,7 +8,7 @@ use Rattle.jobs.specs.Meetings.{HeldJob, first_met}
 use Rattle.jobs.specs.Takes.{Take}
 use Rattle.jobs.specs.Ways.{stay_take}
 use Rattle.jobs.proofs.Waits.{still_as}
-use Rattle.jobs.proofs.Delays.{free, no_route, way_free, way_late, way_meets, way_met}
+use Rattle.jobs.proofs.Delays.{free, no_route, past_late, way_free, way_meets, way_met, way_within}
 use Rattle.jobs.proofs.Searches.{FailsFrom, Passed, leap, leap_all, search_found, search_none}
 use Rattle.jobs.proofs.board.Board.first_delay.Given.{Over}
 use Rattle.jobs.proofs.board.Board.first_delay.Goals.{After-max}
@@ -37,19 +37,17 @@ pub returns-in_err-way : goal.returns-in_err-way
 returns-in_err-way g c =
     let f = setting_of g.F.Fabric.meaning c.args.self.now in
     let js : Jobs = record { tasks = c.args.self.now.tasks.now; messages = c.args.held.now } in
-    c.from_residual.ensures
+    c.from_residual-in_err-way.ensures
     ∙ search_none _ c.args.ends.now.source.period (λ y l. no_route f js c.args.ends.now.source c.args.ends.now.destination c.args.m.now c.in_err-way.ensures y)
-
-pub returns-then-is_some : goal.returns-then-is_some
-returns-then-is_some g c =
-    none_after _ c.loop-delay.delay _ (grind arith) c.loop-delay.invariant
-    (way_late _ _ _ _ _ _ _ _ c.at-message.ensures c.in_ok-way.ensures (grind arith) (c.if-is_some.ensures ∙ ap is_some c.late_by.ensures))
 
 pub returns-in_default : goal.returns-in_default
 returns-in_default g c =
+    let js : Jobs = record { tasks = c.args.self.now.tasks.now; messages = c.args.held.now } in
     let takes = ap (map stay_take) c.as_slice-own.ensures.value ∙ c.stays-stays.ensures in
-    search_found _ _ c.loop-delay.delay (omega arith) c.loop-delay.invariant
-    (way_free _ _ _ _ _ _ _ _ c.at-message.ensures c.in_ok-way.ensures (c.if-is_some.ensures ∙ ap is_some c.late_by.ensures) (met_as _ takes c.in_default.ensures))
+    let in_time = c.in_ok-count.ensures in
+    let within = way_within (setting_of g.F.Fabric.meaning c.args.self.now) js c.args.ends.now.source c.args.ends.now.destination c.args.m.now c.loop-delay.delay _ _ c.at-message.ensures c.in_ok-way.ensures c.in_ok-count.count in_time in
+    search_found _ _ c.loop-delay.delay (omega (arith, within, c.loop-delay-test.true)) c.loop-delay.invariant
+    (way_free _ _ _ _ _ _ _ _ c.at-message.ensures c.in_ok-way.ensures c.in_ok-count.count in_time c.loop-delay-test.true (met_as _ takes c.in_default.ensures))
 
 pub returns-in_err-wait : goal.returns-in_err-wait
 returns-in_err-wait g c =
@@ -69,5 +67,16 @@ pub loop-delay-preserved : goal.loop-delay-preserved
 loop-delay-preserved g c =
     λ y l. refused g (goal.at.loop-delay-preserved g c).After-max y (omega (arith, c.in_ok-delay.ensures)) (grind arith)
 
+pub returns-in_err-count : goal.returns-in_err-count
+returns-in_err-count g c =
+    let f = setting_of g.F.Fabric.meaning c.args.self.now in
+    let js : Jobs = record { tasks = c.args.self.now.tasks.now; messages = c.args.held.now } in
+    c.from_residual.ensures
+    ∙ search_none _ c.args.ends.now.source.period (λ y l. no_route f js c.args.ends.now.source c.args.ends.now.destination c.args.m.now c.in_err-count.ensures y)
+
 pub returns : goal.returns
-returns g c = search_none _ _ (λ y l. c.loop-delay.invariant y (omega arith))
+returns g c =
+    let f = setting_of g.F.Fabric.meaning c.args.self.now in
+    let js : Jobs = record { tasks = c.args.self.now.tasks.now; messages = c.args.held.now } in
+    search_none _ _ (λ y l. ⊎_elim (λ below. c.loop-delay.invariant y below)
+    (λ past. past_late f js c.args.ends.now.source c.args.ends.now.destination c.args.m.now c.in_ok-count.count c.in_ok-count.ensures y (omega (arith, past, c.loop-delay-test.false)) l) (cases_lt y c.loop-delay.delay))

@@ -14,4 +14,4 @@ invariant-loop-delay g l =
     Passed (λ v. clear (on_way s js (message_at l.m v) l.ends.source l.ends.destination (s.network.route l.ends.source.core l.ends.destination.core))) l.delay
 
 abbrev pub decreases-loop-delay : goal.decreases-loop-delay
-decreases-loop-delay g l = l.ends.source.period - l.delay
+decreases-loop-delay g l = l.count - l.delay
