@@ -2,6 +2,7 @@
 //!
 //! twin                 times the workload that standard input holds, as `stopwatch` does, and prints the same
 //! twin unroll SECONDS  answers the workload by unrolling time, for at most so many seconds
+//! twin smt             puts the workload to a solver, as SMT-LIB
 //! twin make FOLDER     writes the workloads
 
 mod fabric;
@@ -9,6 +10,7 @@ mod holds;
 mod judge;
 mod make;
 mod plan;
+mod smt;
 mod unroll;
 
 use fabric::{Fabric, Mesh};
@@ -192,9 +194,9 @@ fn main() {
     let mut text = String::new();
     std::io::stdin().read_to_string(&mut text).unwrap();
     let (rounds, asked) = read_workload(&text);
-    if args.get(1).is_some_and(|word| word == "unroll") {
-        unroll::unroll(&asked, Duration::from_secs_f64(args[2].parse().unwrap()));
-    } else {
-        run(rounds, &asked);
+    match args.get(1).map(String::as_str) {
+        Some("unroll") => unroll::unroll(&asked, Duration::from_secs_f64(args[2].parse().unwrap())),
+        Some("smt") => smt::put(&asked),
+        _ => run(rounds, &asked),
     }
 }

@@ -345,11 +345,15 @@ fn make_listed(folder: &Folder) {
     folder.judge("judge-listed", 1, &listed_file(&shape, &jobs));
 }
 
-/// Periods of one unit times primes: the common multiple of all is out of reach.
+/// A smaller plan, whose periods are one unit times primes, so that the common multiple of all is out of reach. Once it is clean, and
+/// once its last message has a prime period, and meets.
 fn make_small(folder: &Folder) {
     let shape =
-        Shape { columns: 4, rows: 4, delay: 2, tasks: 30, messages: 60, unit: 256, times: primes(40, 256), widest: 8 };
+        Shape { columns: 6, rows: 5, delay: 2, tasks: 30, messages: 60, unit: 256, times: primes(40, 256), widest: 8 };
     folder.judge("judge-30-60", 10, &mesh_file(&shape, &make_jobs(6, &shape, None)));
+    let (mut jobs, _) = without_last(&make_jobs(6, &shape, Some(65521)));
+    jobs.messages.push(across(&jobs));
+    folder.judge("judge-30-60-meets", 10, &mesh_file(&shape, &jobs));
 }
 
 fn make_periods(folder: &Folder) {
