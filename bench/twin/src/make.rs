@@ -166,15 +166,15 @@ fn mesh_file(shape: &Shape, jobs: &Jobs) -> Vec<u8> {
     b
 }
 
-/// The links and routes of the mesh that some jobs use, as a listed fabric of at most 128 links and 256 routes.
-fn listed_file(shape: &Shape, jobs: &Jobs) -> Vec<u8> {
+/// The links and routes of a mesh of 16 nodes as those of a listed fabric.
+fn listed_part(shape: &Shape) -> Vec<u8> {
     let mesh = shape.mesh();
     let mut links: Vec<u16> = Vec::new();
     let mut routes = Vec::new();
     for from in 0..mesh.nodes() {
         for to in 0..mesh.nodes() {
             let route: Vec<u16> = mesh.route(from, to).unwrap().collect();
-            if from == to || routes.len() == 256 {
+            if from == to {
                 continue;
             }
             let mut record = vec![from as u8, to as u8, route.len() as u8, 0];
@@ -200,8 +200,6 @@ fn listed_file(shape: &Shape, jobs: &Jobs) -> Vec<u8> {
     b.extend(links.iter().flat_map(link_bytes));
     b.extend((routes.len() as u16).to_be_bytes());
     b.extend(routes.concat());
-    b.extend(section(&jobs.tasks, task_bytes));
-    b.extend(section(&jobs.messages, message_bytes));
     b
 }
 
@@ -287,28 +285,28 @@ fn make_full(folder: &Folder) {
     let shape = full(1 << 16);
     let jobs = make_jobs(1, &shape, Some(65521));
     let fabric = shape.fabric_line();
-    folder.judge("judge-clear", 2, &mesh_file(&shape, &jobs));
+    folder.judge("judge-clear", 1, &mesh_file(&shape, &jobs));
     let mut over = jobs.clone();
     while over.messages.len() < 447 {
         let mut m = over.messages[over.messages.len() - 128];
         m.name += 128;
         over.messages.push(m);
     }
-    folder.judge("judge-largest", 2, &mesh_file(&shape, &over));
+    folder.judge("judge-largest", 1, &mesh_file(&shape, &over));
     let (held, last) = without_last(&jobs);
-    folder.call("offer-taken", 50, &fabric, &held, &message_line(&last));
-    folder.call("offer-meets", 50, &fabric, &held, &message_line(&across(&jobs)));
+    folder.call("offer-taken", 10, &fabric, &held, &message_line(&last));
+    folder.call("offer-meets", 10, &fabric, &held, &message_line(&across(&jobs)));
     let placed = hard_to_place(2, &shape, &held, 4 * shape.widest, true);
-    folder.call("place-message", 10, &fabric, &held, &place_line(&placed));
+    folder.call("place-message", 2, &fabric, &held, &place_line(&placed));
     let unfit = hard_to_place(3, &shape, &held, shape.unit, false);
-    folder.call("place-message-nofit", 10, &fabric, &held, &place_line(&unfit));
+    folder.call("place-message-nofit", 1, &fabric, &held, &place_line(&unfit));
     for count in [8, 16, 32, 64, 128] {
         let mut some = jobs.clone();
         some.messages.truncate(count);
-        folder.judge(&format!("judge-messages-{count}"), 2, &mesh_file(&shape, &some));
+        folder.judge(&format!("judge-messages-{count}"), 1, &mesh_file(&shape, &some));
         some.messages.pop();
-        folder.call(&format!("taken-messages-{count}"), 50, &fabric, &some, &message_line(&last));
-        folder.call(&format!("meets-messages-{count}"), 50, &fabric, &some, &message_line(&across(&jobs)));
+        folder.call(&format!("taken-messages-{count}"), 10, &fabric, &some, &message_line(&last));
+        folder.call(&format!("meets-messages-{count}"), 10, &fabric, &some, &message_line(&across(&jobs)));
     }
 }
 
@@ -333,16 +331,22 @@ fn make_tasks(folder: &Folder) {
     let width = (1..8192).take_while(|width| fits(*width).is_ok()).last().unwrap();
     let phase = fits(width).unwrap();
     folder.call("place-task", 10, fabric, &held, &format!("place task 1000 0 65536 {width}\n"));
-    folder.call("place-task-nofit", 5, fabric, &held, &format!("place task 1000 0 65536 {}\n", width + 1));
+    folder.call("place-task-nofit", 2, fabric, &held, &format!("place task 1000 0 65536 {}\n", width + 1));
     let taken = Task { name: 1000, core: 0, period: 65536, phase, width };
-    folder.call("task-taken", 200, fabric, &held, &task_line(&taken));
-    folder.call("task-meets", 200, fabric, &held, &task_line(&Task { period: 65521, phase: 0, width: 1, ..taken }));
+    folder.call("task-taken", 100, fabric, &held, &task_line(&taken));
+    folder.call("task-meets", 100, fabric, &held, &task_line(&Task { period: 65521, phase: 0, width: 1, ..taken }));
 }
 
 fn make_listed(folder: &Folder) {
     let shape = Shape { columns: 4, rows: 4, ..full(1 << 16) };
     let jobs = make_jobs(5, &shape, None);
-    folder.judge("judge-listed", 1, &listed_file(&shape, &jobs));
+    let fabric = listed_part(&shape);
+    let mut file = fabric.clone();
+    file.extend(section(&jobs.tasks, task_bytes));
+    file.extend(section(&jobs.messages, message_bytes));
+    folder.judge("judge-listed", 1, &file);
+    let (held, last) = without_last(&jobs);
+    folder.call("listed-taken", 5, &format!("fabric listed {}", hex(&fabric)), &held, &message_line(&last));
 }
 
 /// A smaller plan, whose periods are one unit times primes, so that the common multiple of all is out of reach. Once it is clean, and
@@ -350,10 +354,10 @@ fn make_listed(folder: &Folder) {
 fn make_small(folder: &Folder) {
     let shape =
         Shape { columns: 6, rows: 5, delay: 2, tasks: 30, messages: 60, unit: 256, times: primes(40, 256), widest: 8 };
-    folder.judge("judge-30-60", 10, &mesh_file(&shape, &make_jobs(6, &shape, None)));
+    folder.judge("judge-30-60", 1, &mesh_file(&shape, &make_jobs(6, &shape, None)));
     let (mut jobs, _) = without_last(&make_jobs(6, &shape, Some(65521)));
     jobs.messages.push(across(&jobs));
-    folder.judge("judge-30-60-meets", 10, &mesh_file(&shape, &jobs));
+    folder.judge("judge-30-60-meets", 1, &mesh_file(&shape, &jobs));
 }
 
 fn make_periods(folder: &Folder) {
@@ -362,8 +366,8 @@ fn make_periods(folder: &Folder) {
         let jobs = make_jobs(7, &shape, Some(prime));
         let (held, last) = without_last(&jobs);
         let fabric = shape.fabric_line();
-        folder.call(&format!("taken-period-{exponent}"), 50, &fabric, &held, &message_line(&last));
-        folder.call(&format!("meets-period-{exponent}"), 50, &fabric, &held, &message_line(&across(&jobs)));
+        folder.call(&format!("taken-period-{exponent}"), 10, &fabric, &held, &message_line(&last));
+        folder.call(&format!("meets-period-{exponent}"), 10, &fabric, &held, &message_line(&across(&jobs)));
     }
 }
 
