@@ -371,20 +371,26 @@ fn make_periods(folder: &Folder) {
     }
 }
 
+/// Pairs of holds with coprime periods, each of one instant.
+fn coprime_pairs(random: &mut Random, low: u32, high: u32) -> Vec<[(u64, u32, u32); 2]> {
+    let mut pairs = Vec::new();
+    while pairs.len() < 2000 {
+        let (p, q) = (random.within(low, high), random.within(low, high));
+        if gcd(p, q) == 1 {
+            let (s, t) = (random.within(0, p - 1), random.within(0, q - 1));
+            pairs.push([(u64::from(s), p, 1), (u64::from(t), q, 1)]);
+        }
+    }
+    pairs
+}
+
 fn make_pairs(folder: &Folder) {
     let mut random = Random::new(8);
+    folder.pairs("meet-above-10000", "meet", &coprime_pairs(&mut random, 10001, 1 << 14));
     for exponent in [8, 10, 12, 14, 16, 20, 24] {
         let high = if exponent == 24 { 255 * 65536 } else { 1 << exponent };
         let low = 1 << (exponent - 1);
-        let mut pairs = Vec::new();
-        while pairs.len() < 2000 {
-            let (p, q) = (random.within(low, high), random.within(low, high));
-            if gcd(p, q) == 1 {
-                let (s, t) = (random.within(0, p - 1), random.within(0, q - 1));
-                pairs.push([(u64::from(s), p, 1), (u64::from(t), q, 1)]);
-            }
-        }
-        folder.pairs(&format!("meet-{exponent}"), "meet", &pairs);
+        folder.pairs(&format!("meet-{exponent}"), "meet", &coprime_pairs(&mut random, low, high));
         // two neighbours of Fibonacci's series take the most turns of all
         let (mut p, mut q) = (1u32, 2u32);
         while p + q <= high {

@@ -42,6 +42,9 @@ impl Watch {
 
 /// The first instant in two runs of one place, by going over the runs of all holds in turn.
 fn by_runs(holds: &[Hold], watch: &mut Watch) -> Result<Option<u64>, ()> {
+    if let [one, other] = holds {
+        return by_runs_of_two(*one, *other, watch);
+    }
     let end = horizon(holds);
     let mut next: Vec<u64> = holds.iter().map(|h| h.start).collect();
     let mut busy = 0; // until this instant
@@ -65,6 +68,25 @@ fn by_runs(holds: &[Hold], watch: &mut Watch) -> Result<Option<u64>, ()> {
             return Err(());
         }
     }
+}
+
+/// The same for two holds, whose next runs are looked at together.
+fn by_runs_of_two(one: Hold, other: Hold, watch: &mut Watch) -> Result<Option<u64>, ()> {
+    let end = horizon(&[one, other]);
+    let (mut a, mut b) = (one.start, other.start);
+    while u128::from(a.min(b)) < end {
+        if a + u64::from(one.width) <= b {
+            a += u64::from(one.period);
+        } else if b + u64::from(other.width) <= a {
+            b += u64::from(other.period);
+        } else {
+            return Ok(Some(a.max(b)));
+        }
+        if watch.over() {
+            return Err(());
+        }
+    }
+    Ok(None)
 }
 
 /// The same, by going over the instants.
