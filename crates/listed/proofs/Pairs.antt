@@ -13,21 +13,29 @@ use Rattle.listed.specs.Sound.{GoodParts, good_parts}
 use Rattle.listed.proofs.Finds.{chosen, chosen_here, chosen_other, seek_first, seek_nothing, route_found}
 use Rattle.listed.proofs.Firsts.{links_good, routes_good}
 
--- one pair of nodes comes before another: by from, then by to
-abbrev pub Before : Route → Route → Type 0
-Before q r = (q.from < r.from) ⊎ ((q.from ≡ r.from) × (q.to < r.to))
+-- one pair of nodes is below another: by from, then by to
+abbrev pub Below : ℕ × ℕ → ℕ × ℕ → Type 0
+Below p q = (p.0 < q.0) ⊎ ((p.0 ≡ q.0) × (p.1 < q.1))
 
 -- three in a row
-before_more : (p q r : Route) → Before p q → Before q r → Before p r
-before_more p q r (inl a) (inl b) = inl (omega arith)
-before_more p q r (inl a) (inr b) = inl (omega (arith, b.0))
-before_more p q r (inr a) (inl b) = inl (omega (arith, a.0))
-before_more p q r (inr a) (inr b) = inr (a.0 ∙ b.0, omega (arith, a.1, b.1))
+pub below_more : (p q r : ℕ × ℕ) → Below p q → Below q r → Below p r
+below_more p q r (inl a) (inl b) = inl (omega arith)
+below_more p q r (inl a) (inr b) = inl (omega (arith, b.0))
+below_more p q r (inr a) (inl b) = inl (omega (arith, a.0))
+below_more p q r (inr a) (inr b) = inr (a.0 ∙ b.0, omega (arith, a.1, b.1))
 
 -- so the two are different
-before_apart : (q r : Route) → Before q r → q.from ≡ r.from → q.to ≡ r.to → ⊥
-before_apart q r (inl a) e f = omega arith
-before_apart q r (inr a) e f = omega (arith, a.1)
+pub below_apart : (p q : ℕ × ℕ) → Below p q → p.0 ≡ q.0 → p.1 ≡ q.1 → ⊥
+below_apart p q (inl a) e f = omega arith
+below_apart p q (inr a) e f = omega (arith, a.1)
+
+-- the two nodes of a route
+abbrev pub ends : Route → ℕ × ℕ
+ends r = (r.from, r.to)
+
+-- one route comes before another
+abbrev pub Before : Route → Route → Type 0
+Before q r = Below (ends q) (ends r)
 
 -- what the test says
 above_before : (q r : Route) → route_above (Some q) r ≡ true → Before q r
@@ -52,7 +60,7 @@ some_route n ls prior (Some r) h = (r, refl, good_parts n ls prior r h)
 module _ (n : ℕ) (ls rs : List ℕ)
     (routed : (k : ℕ) → k < length rs / 16 → route_good n ls (route_prior rs k) (route_at rs k) ≡ true) where
   -- each place has a good record
-  at_place : (k : ℕ) → k < route_count rs → (r : Route) × (route_at rs k ≡ Some r) × GoodParts n ls (route_prior rs k) r
+  pub at_place : (k : ℕ) → k < route_count rs → (r : Route) × (route_at rs k ≡ Some r) × GoodParts n ls (route_prior rs k) r
   at_place k h = some_route n ls (route_prior rs k) (route_at rs k) (routed k h)
 
   -- a record comes before the next
@@ -70,28 +78,28 @@ module _ (n : ℕ) (ls rs : List ℕ)
   further (suc d) k q r h here there =
       let (m, mid, _) = at_place (k + 1 + d) (omega arith) in
       let e : k + 1 + d + 1 ≡ k + 1 + suc d = omega arith in
-      before_more q m r (further d k q m (omega arith) here mid) (next (k + 1 + d) m r (omega arith) mid (ap (route_at rs) e ∙ there))
+      below_more (ends q) (ends m) (ends r) (further d k q m (omega arith) here mid) (next (k + 1 + d) m r (omega arith) mid (ap (route_at rs) e ∙ there))
 
   -- the records ascend
-  ordered : (j k : ℕ) (q r : Route) → j < k → k < route_count rs → route_at rs j ≡ Some q → route_at rs k ≡ Some r → Before q r
+  pub ordered : (j k : ℕ) (q r : Route) → j < k → k < route_count rs → route_at rs j ≡ Some q → route_at rs k ≡ Some r → Before q r
   ordered j k q r low h here there =
       let e : j + 1 + (k - (j + 1)) ≡ k = omega arith in
       further (k - (j + 1)) j q r (omega arith) here (ap (route_at rs) e ∙ there)
 
   -- the search for a record's pair finds the record: those before it are of other pairs
-  seek_found : (k : ℕ) (r : Route) → k < route_count rs → route_at rs k ≡ Some r → seek rs r.from r.to 0 (route_count rs) ≡ Some (route_links r)
+  pub seek_found : (k : ℕ) (r : Route) → k < route_count rs → route_at rs k ≡ Some r → seek rs r.from r.to 0 (route_count rs) ≡ Some (route_links r)
   seek_found k r h here =
       seek_first rs r.from r.to 0 (route_count rs) k r h (ap (λ i. chosen r.from r.to (route_at rs i)) (zero-add k) ∙ ap (chosen r.from r.to) here ∙ chosen_here r.from r.to r refl refl)
       (λ j l.
       let (q, there, _) = at_place j (omega arith) in
-      ap (λ i. chosen r.from r.to (route_at rs i)) (zero-add j) ∙ ap (chosen r.from r.to) there ∙ chosen_other r.from r.to q (before_apart q r (ordered j k q r l h there here)))
+      ap (λ i. chosen r.from r.to (route_at rs i)) (zero-add j) ∙ ap (chosen r.from r.to) there ∙ chosen_other r.from r.to q (below_apart (ends q) (ends r) (ordered j k q r l h there here)))
 
   -- the search for a pair without a record finds none
-  seek_absent : (a b : ℕ) → ((k : ℕ) (r : Route) → route_at rs k ≡ Some r → r.from ≡ a → r.to ≡ b → ⊥) → seek rs a b 0 (route_count rs) ≡ None
+  pub seek_absent : (a b : ℕ) → ((k : ℕ) (r : Route) → k < route_count rs → route_at rs k ≡ Some r → r.from ≡ a → r.to ≡ b → ⊥) → seek rs a b 0 (route_count rs) ≡ None
   seek_absent a b absent =
       seek_nothing rs a b 0 (route_count rs) (λ j h.
       let (q, there, _) = at_place j h in
-      ap (λ i. chosen a b (route_at rs i)) (zero-add j) ∙ ap (chosen a b) there ∙ chosen_other a b q (absent j q there))
+      ap (λ i. chosen a b (route_at rs i)) (zero-add j) ∙ ap (chosen a b) there ∙ chosen_other a b q (absent j q h there))
 
   -- the route of a record's pair
   route_known : (k : ℕ) → k < route_count rs → (r : Route) × (route_at rs k ≡ Some r) × (listed_route n rs r.from r.to ≡ Some (route_links r))
@@ -105,7 +113,7 @@ module _ (n : ℕ) (ls rs : List ℕ)
       let t = ltb a n && ltb b n in
       let found = cond (eqb a b) (Some []) (seek rs a b 0 (route_count rs)) in
       ⊎_elim
-      (λ (yes' : t ≡ true). cond-true t found None yes' ∙ cond-false (eqb a b) (Some []) (seek rs a b 0 (route_count rs)) (ne_eqb a b apart) ∙ seek_absent a b absent)
+      (λ (yes' : t ≡ true). cond-true t found None yes' ∙ cond-false (eqb a b) (Some []) (seek rs a b 0 (route_count rs)) (ne_eqb a b apart) ∙ seek_absent a b (λ k r h. absent k r))
       (λ (no' : t ≡ false). cond-false t found None no')
       (cases_Bool t)
 

@@ -9,7 +9,7 @@ ghost use Rattle.listed.specs.Sound.{listed_lawful};
 use super::Listed;
 use fabric::Fabric;
 use records::record::Route;
-use records::section::Section;
+use std::cmp::Ordering;
 
 impl<'a> Fabric for Listed<'a> {
     // A route's record has room for as many links.
@@ -73,18 +73,26 @@ impl Listed<'_> {
         if from == to || from >= self.nodes() || to >= self.nodes() {
             return None;
         }
-        find(&self.routes, from, to)
+        self.find(from, to)
     }
-}
 
-// The record of the route from one node to another, by the places of the records: a section gives them by no slice.
-fn find(routes: &Section<'_, Route>, from: usize, to: usize) -> Option<Route>
-    ensures answer { option_map route_links result ≡ seek routes.now.bytes.now from to 0 (route_count routes.now.bytes.now) }
-    ensures stands { IfSome result (Stands routes.now.bytes.now) }
-{
-    (0..routes.count()).find_map(|k| {
-        routes
-            .get(k)
-            .filter(|r| r.from as usize == from && r.to as usize == to)
-    })
+    // The record of the route from one node to another. The records ascend, so each turn halves the places where it may stand;
+    // a section gives them by no slice, which std could search.
+    fn find(&self, from: usize, to: usize) -> Option<Route>
+        ensures answer { option_map route_links result ≡ seek self.now.routes.bytes.now from to 0 (route_count self.now.routes.bytes.now) }
+        ensures stands { IfSome result (Stands self.now.routes.bytes.now) }
+    {
+        let mut low = 0;
+        let mut high = self.routes.count();
+        while low < high {
+            let middle = low + (high - low) / 2;
+            let route = self.routes.get(middle)?;
+            match (route.from as usize, route.to as usize).cmp(&(from, to)) {
+                Ordering::Less => low = middle + 1,
+                Ordering::Equal => return Some(route),
+                Ordering::Greater => high = middle,
+            }
+        }
+        None
+    }
 }
