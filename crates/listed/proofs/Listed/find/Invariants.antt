@@ -4,7 +4,7 @@ use Rattle.listed.proofs.Listed.find.Given as goal
 
 -- the pair's record stands nowhere but in the places that are left
 abbrev pub invariant-loop-low : goal.invariant-loop-low
-invariant-loop-low l = Inside l.self.routes.bytes.now (l.from, l.to) l.low l.high
+invariant-loop-low l = Inside l.self.routes.bytes.now l.from l.to l.low l.high
 
 abbrev pub decreases-loop-low : goal.decreases-loop-low
 decreases-loop-low l = l.high - l.low
