@@ -15,12 +15,12 @@ use Rattle.jobs.specs.declared.way.Way.{Way}
 use Rattle.jobs.specs.Jobs.{Jobs, Setting}
 use Rattle.jobs.specs.Meetings.{HeldJob, first_met, held_message}
 use Rattle.jobs.specs.Open.{message_at}
-use Rattle.jobs.specs.Placings.{InTime, clear, on_way}
+use Rattle.jobs.specs.Placings.{clear, on_way}
 use Rattle.jobs.specs.Reading.{arrival, due, lateness, message_slack, slack_of, slack_over}
 use Rattle.jobs.specs.Checks.{packet_refusal}
 use Rattle.jobs.specs.Rules.{late}
 use Rattle.jobs.specs.Takes.{along, leaves, on_route, packet_takes, task_hold}
-use Rattle.jobs.specs.Waits.{StillMet, put_off}
+use Rattle.jobs.specs.Waits.{InTime, StillMet, put_off}
 use Rattle.jobs.specs.Ways.{IsWay, way_slack, way_takes}
 use Rattle.jobs.proofs.Limits.{arrives_near}
 use Rattle.jobs.proofs.Searches.{FailsFrom}
@@ -51,13 +51,13 @@ module _ (g : Setting) (js : Jobs) (s d : Task) (m : OpenMessage) where
   pub no_route : g.network.route s.core d.core ≡ None → (v : ℕ) → free v ≡ false
   no_route e v = ap (λ o. clear (on_way g js (message_at m v) s d o)) e
 
+  -- the fabric has a route, along which the first n delays are in time
+  abbrev pub Covers : ℕ → Type 0
+  Covers n = (r : List ℕ) × (g.network.route s.core d.core ≡ Some r) × InTime g s d m (length r) n
+
   -- past the delays that are in time all are refused
-  pub past_late : (n : ℕ) → ((r : List ℕ) → g.network.route s.core d.core ≡ Some r → InTime g s d m (length r) n) → (y : ℕ) → n ≤ y → y < s.period → free y ≡ false
-  past_late n in_time y h l = go (g.network.route s.core d.core) refl
-    where
-      go : (o : Option (List ℕ)) → g.network.route s.core d.core ≡ o → free y ≡ false
-      go None e = no_route e y
-      go (Some r) e = ap (λ o. clear (on_way g js (message_at m y) s d o)) e ∙ late_refuses _ _ ((in_time r e).late y h l)
+  pub past_late : (n : ℕ) → Covers n → (y : ℕ) → n ≤ y → y < s.period → free y ≡ false
+  past_late n covers y h l = ap (λ o. clear (on_way g js (message_at m y) s d o)) covers.1 ∙ late_refuses _ _ (covers.2.late y h l)
 
   -- along a route, against the way of the message at one delay
   module _ (v : ℕ) (w : Way) (is : IsWay g s d (message_at m v) w) (r : List ℕ) (e : g.network.route s.core d.core ≡ Some r) (long : length r ≡ w.links) where
@@ -128,11 +128,12 @@ module _ (g : Setting) (js : Jobs) (s d : Task) (m : OpenMessage) where
     route : (r : List ℕ) × (g.network.route s.core d.core ≡ Some r) × (length r ≡ w.links)
     route = length_route (g.network.route s.core d.core) w.links is.links
 
-    pub way_free : (n : ℕ) → ((r : List ℕ) → g.network.route s.core d.core ≡ Some r → InTime g s d m (length r) n) → v < n → None ≡ first_met (way_takes g w) held → free v ≡ true
-    way_free n in_time h clear-way = route_free v w is route.0 route.1 route.2 ((in_time route.0 route.1).timely v h) (sym clear-way)
+    -- the route of the delays is that of the way
+    as_long : (n : ℕ) (covers : Covers n) → length covers.0 ≡ w.links
+    as_long n covers = let same : covers.0 ≡ route.0 = cc (covers.1, route.1) in ap length same ∙ route.2
 
-    pub way_within : (n : ℕ) → ((r : List ℕ) → g.network.route s.core d.core ≡ Some r → InTime g s d m (length r) n) → n ≤ s.period
-    way_within n in_time = (in_time route.0 route.1).within
+    pub way_free : (n : ℕ) → Covers n → v < n → None ≡ first_met (way_takes g w) held → free v ≡ true
+    way_free n covers h clear-way = route_free v w is covers.0 covers.1 (as_long n covers) (covers.2.in_time v h) (sym clear-way)
 
     pub way_met : (o : Meeting) → Some o ≡ first_met (way_takes g w) held → free v ≡ false
     way_met o e = route_met v w is route.0 route.1 route.2 (sym (ap clear e))
@@ -160,7 +161,7 @@ module _ (g : Setting) (s d : Task) (m : OpenMessage) (x : Message) (w : Way) (e
   never_late none =
       record {
         within = le_refl s.period;
-        timely = λ v h. subst (λ o. LateBy v o (late_with v)) none (by_delay v (omega (arith, h, few)));
+        in_time = λ v h. subst (λ o. LateBy v o (late_with v)) none (by_delay v (omega (arith, h, few)));
         late = λ v h k. absurd (omega (arith, h, k));
       }
 
@@ -168,7 +169,7 @@ module _ (g : Setting) (s d : Task) (m : OpenMessage) (x : Message) (w : Way) (e
   always_late z some below =
       record {
         within = omega arith;
-        timely = λ v h. absurd (omega (arith, h));
+        in_time = λ v h. absurd (omega (arith, h));
         late = λ v h k. (subst (λ o. LateBy v o (late_with v)) some (by_delay v (omega (arith, k, few)))).0 (grind (arith, ints, below));
       }
 
@@ -176,7 +177,7 @@ module _ (g : Setting) (s d : Task) (m : OpenMessage) (x : Message) (w : Way) (e
   spare_as k n some is =
       record {
         within = omega (arith, is);
-        timely = λ v h. (subst (λ o. LateBy v o (late_with v)) some (by_delay v (omega (arith, h, is, few)))).1 (grind (arith, ints, h, is));
+        in_time = λ v h. (subst (λ o. LateBy v o (late_with v)) some (by_delay v (omega (arith, h, is, few)))).1 (grind (arith, ints, h, is));
         late = λ v h l. (subst (λ o. LateBy v o (late_with v)) some (by_delay v (omega (arith, l, few)))).0 (grind (arith, ints, h, l, is));
       }
 

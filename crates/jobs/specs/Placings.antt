@@ -1,5 +1,5 @@
 -- Placings: a job is held with the smallest value whose offer would be taken. Assumes nothing.
-use Rattle.std.specs.Prelude.{◌≡◌, ℕ, ◌+◌, ◌-◌, ◌<◌, ◌≤◌, Bool, true, false, List, Some, None, Ok, Err, Option, Result}
+use Rattle.std.specs.Prelude.{ℕ, ◌+◌, ◌-◌, Bool, true, false, List, Some, None, Ok, Err, Option, Result}
 use Rattle.holds.specs.Search.{first_from}
 use Rattle.records.specs.declared.record.Task.{Task}
 use Rattle.records.specs.declared.record.Message.{Message}
@@ -13,7 +13,6 @@ use Rattle.jobs.specs.declared.open.OpenMessage.{OpenMessage}
 use Rattle.jobs.specs.Jobs.{Setting, Jobs, task_named, with_task, with_message}
 use Rattle.jobs.specs.Open.{task_at, message_at}
 use Rattle.jobs.specs.Checks.{task_checks, message_checks, packet_refusal}
-use Rattle.jobs.specs.Reading.{lateness, message_slack}
 use Rattle.jobs.specs.Rules.{task_refusal, message_refusal}
 
 -- nothing refuses
@@ -47,12 +46,6 @@ on_way g js m s d (Some r) = packet_refusal g js m s d r
 abbrev pub delays : Option Task → ℕ
 delays None = 0
 delays (Some s) = s.period
-
--- over a route of so many links, packets with the first n delays are in time, and with all others below the source's period late
-pub record InTime (g : Setting) (s d : Task) (m : OpenMessage) (links n : ℕ) : Type 0 where
-  pub within : n ≤ s.period
-  pub timely : (v : ℕ) → v < n → lateness (message_slack g.network.delay s d (message_at m v) links) ≡ None
-  pub late : (v : ℕ) → n ≤ v → v < s.period → clear (lateness (message_slack g.network.delay s d (message_at m v) links)) ≡ false
 
 -- the smallest delay whose offer would be taken
 abbrev pub first_delay : Setting → Jobs → OpenMessage → Option ℕ

@@ -1,11 +1,16 @@
--- A job that is put off and still meets one that is held. Assumes nothing.
-use Rattle.std.specs.Prelude.{◌≡◌, ℕ, ◌<◌, Bool, false, List, map, Some, None, Option}
+-- A job that is put off: how long it still meets one that is held, and which delays are in time. Assumes nothing.
+use Rattle.std.specs.Prelude.{◌≡◌, ℕ, ◌<◌, ◌≤◌, Bool, false, List, map, ℤ, Some, None, Option}
 use Rattle.std.specs.Option.{option_map}
 use Rattle.std.specs.List.{slice_get}
 use Rattle.holds.specs.Span.{later}
 use Rattle.jobs.specs.declared.stay.Stay.{Stay}
 use Rattle.jobs.specs.Meetings.{HeldJob, first_met, met}
+use Rattle.jobs.specs.declared.open.OpenMessage.{OpenMessage}
+use Rattle.records.specs.declared.record.Task.{Task}
+use Rattle.jobs.specs.Jobs.{Setting}
+use Rattle.jobs.specs.Open.{message_at}
 use Rattle.jobs.specs.Placings.{clear}
+use Rattle.jobs.specs.Reading.{lateness, message_slack}
 use Rattle.jobs.specs.Takes.{Take}
 use Rattle.jobs.specs.Ways.{stay_take}
 
@@ -30,3 +35,13 @@ StillMet own held wait = Fails (λ n. clear (first_met (map (put_off n) own) hel
 abbrev pub Among : List Take → Option Stay → Type 0
 Among ts None = Unit {0}
 Among ts (Some s) = (i : ℕ) × (slice_get ts i ≡ Some (stay_take s))
+
+-- whether packets of a message with the delay v are late, over a route of so many links
+abbrev pub late_at : Setting → Task → Task → OpenMessage → ℕ → ℕ → Option ℤ
+late_at g s d m links v = lateness (message_slack g.network.delay s d (message_at m v) links)
+
+-- the first n delays are in time, and all others below the source's period late
+pub record InTime (g : Setting) (s d : Task) (m : OpenMessage) (links n : ℕ) : Type 0 where
+  pub within : n ≤ s.period
+  pub in_time : (v : ℕ) → v < n → late_at g s d m links v ≡ None
+  pub late : (v : ℕ) → n ≤ v → v < s.period → clear (late_at g s d m links v) ≡ false

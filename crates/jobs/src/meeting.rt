@@ -20,7 +20,7 @@ fn shared_instant(one: Option<Hold>, other: Option<Hold>) -> Option<u64>
     first_meeting(one?, other?)
 }
 
-// Where an offered job's stay meets that of the held job of this name.
+// Where an offered job's stay meets that of the held job of this name. Inlined, as what calls it is: each offer asks it of each held job.
 #[inline(always)]
 fn meeting_at(name: u16, own: &Stay, held: &Stay) -> Option<Meeting>
     ensures { result ≡ met name (stay_take own.now) (stay_take held.now) }

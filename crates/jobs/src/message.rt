@@ -1,13 +1,14 @@
-// Messages: their limits, the links that their packets take and when, and their slack.
+// Messages: their limits, the links that their packets take and when, their slack, which delays are in time, and whether one names a
+// task.
 ghost use Rattle.jobs.specs.Boards.{setting_of};
 ghost use Rattle.jobs.specs.Drops.{in_use, names_task};
 ghost use Rattle.jobs.specs.Jobs.{over};
 ghost use Rattle.jobs.specs.Meetings.{first_met, held_message};
-ghost use Rattle.jobs.specs.Placings.{InTime};
 ghost use Rattle.jobs.specs.Reading.{arrival, lateness};
 ghost use Rattle.jobs.specs.Rules.{message_timely};
 ghost use Rattle.jobs.specs.Slacks.{slack_among};
 ghost use Rattle.jobs.specs.Takes.{message_takes};
+ghost use Rattle.jobs.specs.Waits.{InTime};
 ghost use Rattle.jobs.specs.Ways.{takes_of, way_slack, way_takes};
 ghost use Rattle.std.specs.Prelude.{◌≡◌, ℕ, ◌+◌, ◌≤◌, true, false, List, length, map, min, pos, nat_abs, Some, None, MatchOption, int_lt};
 
@@ -70,7 +71,7 @@ fn delays_within(slack: i64, period: u32) -> u32
 // How many delays of a message, from 0 on, are in time: each cycle of delay costs one of the slack that it has with none. None
 // where the fabric has no route.
 pub(crate) fn delays_in_time<F: Fabric>(fabric: &F, ends: &Ends, m: &OpenMessage) -> Option<u32>
-    ensures { MatchOption result ((F.Fabric.meaning fabric.now).route ends.now.source.core ends.now.destination.core ≡ None) (λ n. (r : List ℕ) → (F.Fabric.meaning fabric.now).route ends.now.source.core ends.now.destination.core ≡ Some r → InTime (over F.Fabric.meaning fabric.now) ends.now.source ends.now.destination m.now (length r) n) }
+    ensures { MatchOption result ((F.Fabric.meaning fabric.now).route ends.now.source.core ends.now.destination.core ≡ None) (λ n. (r : List ℕ) × ((F.Fabric.meaning fabric.now).route ends.now.source.core ends.now.destination.core ≡ Some r) × InTime (over F.Fabric.meaning fabric.now) ends.now.source ends.now.destination m.now (length r) n) }
 {
     let at_once = m.at(0);
     let way = Way::between(fabric, ends, &at_once)?;

@@ -1,4 +1,4 @@
-// Packets between two tasks: the way that they go, and their stays on its links.
+// Packets between two tasks: the way that they go, their stays on its links, and the nearest meeting with them.
 ghost use Rattle.fabric.specs.Network.{route_place};
 ghost use Rattle.jobs.specs.Jobs.{over};
 ghost use Rattle.jobs.specs.Meetings.{earliest_from, meetings};
@@ -37,6 +37,7 @@ impl Way {
     }
 
     // The stay of packets on the link at a place of their way.
+    // asked for each link of each held message by each offer
     #[inline(always)]
     fn stay_on<F: Fabric>(&self, fabric: &F, place: usize) -> Option<Stay>
         requires { place ≤ 64 }

@@ -37,7 +37,6 @@ pub enum Answer<W> {
     // how many tasks and messages were taken
     Loaded(Result<Counts, LoadFault>),
     Slack(Result<i64, DropFault>),
-    // the name and the run
     // a name and a run, a plain pair: only the text of an answer takes it apart
     Holder(Result<Option<(u16, u64)>, PlaceFault>),
     Written(Result<W, BufferFault>),

@@ -1,8 +1,9 @@
 -- What a script prints: each line that is not blank, with what it is answered. Assumes nothing.
 --   Session, begun     the setting of the plan and the jobs that it holds; a new plan
 --   sets               the network that a line sets
---   leaves             the session after a line
---   reply_to           what a line is answered, as text
+--   anew, leaves       the session after a line
+--   reply_to, told     what a line is answered, as text, and the line with it
+--   told_from          lines in turn
 --   transcript_text    the whole
 use Rattle.std.specs.Prelude.{ℕ, List, [], ◌∷◌, ◌++◌, Some, None, codes, Option, ◌==◌}
 use Rattle.std.specs.List.{slice_split}

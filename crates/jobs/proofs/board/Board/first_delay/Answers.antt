@@ -8,7 +8,7 @@ use Rattle.jobs.specs.Meetings.{HeldJob, first_met}
 use Rattle.jobs.specs.Takes.{Take}
 use Rattle.jobs.specs.Ways.{stay_take}
 use Rattle.jobs.proofs.Waits.{still_as}
-use Rattle.jobs.proofs.Delays.{free, no_route, past_late, way_free, way_meets, way_met, way_within}
+use Rattle.jobs.proofs.Delays.{free, no_route, past_late, way_free, way_meets, way_met}
 use Rattle.jobs.proofs.Searches.{FailsFrom, Passed, leap, leap_all, search_found, search_none}
 use Rattle.jobs.proofs.board.Board.first_delay.Given.{Over}
 use Rattle.jobs.proofs.board.Board.first_delay.Goals.{After-max}
@@ -44,10 +44,9 @@ pub returns-in_default : goal.returns-in_default
 returns-in_default g c =
     let js : Jobs = record { tasks = c.args.self.now.tasks.now; messages = c.args.held.now } in
     let takes = ap (map stay_take) c.as_slice-own.ensures.value ∙ c.stays-stays.ensures in
-    let in_time = c.in_ok-count.ensures in
-    let within = way_within (setting_of g.F.Fabric.meaning c.args.self.now) js c.args.ends.now.source c.args.ends.now.destination c.args.m.now c.loop-delay.delay _ _ c.at-message.ensures c.in_ok-way.ensures c.in_ok-count.count in_time in
-    search_found _ _ c.loop-delay.delay (omega (arith, within, c.loop-delay-test.true)) c.loop-delay.invariant
-    (way_free _ _ _ _ _ _ _ _ c.at-message.ensures c.in_ok-way.ensures c.in_ok-count.count in_time c.loop-delay-test.true (met_as _ takes c.in_default.ensures))
+    let covers = c.in_ok-count.ensures in
+    search_found _ _ c.loop-delay.delay (omega (arith, covers.2.within, c.loop-delay-test.true)) c.loop-delay.invariant
+    (way_free _ _ _ _ _ _ _ _ c.at-message.ensures c.in_ok-way.ensures c.in_ok-count.count covers c.loop-delay-test.true (met_as _ takes c.in_default.ensures))
 
 pub returns-in_err-wait : goal.returns-in_err-wait
 returns-in_err-wait g c =
