@@ -8,7 +8,7 @@ ghost use Rattle.promise.specs.Clean.{Clean};
 ghost use Rattle.refusals.specs.Written.{written};
 ghost use Rattle.replay.specs.Calls.{answer_told, answers, ask, asked, bytes_given, giving, held, read_off, stays};
 ghost use Rattle.replay.specs.Promise.{After, LoadsBack, MainPromise, Promise, Told};
-ghost use Rattle.std.specs.Prelude.{◌≡◌, ℕ, true, length, map, take, vec_items, IfOk};
+ghost use Rattle.std.specs.Prelude.{◌≡◌, ℕ, true, [], ◌∷◌, ◌++◌, length, map, take, vec_items, IfOk};
 
 use fabric::Fabric;
 use plan::Plan;
@@ -91,32 +91,48 @@ fn owned(heap: Global, answer: Answer<usize>, page: &[u8]) -> Result<Answer<Vec<
     })
 }
 
-// A new plan over the fabric after a list of calls, and what they answered. The job part of what is held
-// after any of the calls loads back.
+// The answers with one more, where there is memory for it.
+fn with_answer(
+    heap: Global,
+    mut answers: Vec<Answer<Vec<u8>>>,
+    told: Answer<usize>,
+    page: &[u8],
+) -> Result<Vec<Answer<Vec<u8>>>, AllocError>
+    ensures { IfOk result (λ v. map (giving vec_items) v.items ≡ map (giving vec_items) answers.items ++ (read_off page.now told ∷ [])) }
+{
+    let answer = owned(heap, told, page)?;
+    answers.push(answer)?;
+    Ok(answers)
+}
+
+// A new plan over the fabric after a list of calls, and what they answered where there is memory for the answers; the plan itself
+// asks for none. The job part of what is held after any of the calls loads back.
 pub fn replay<'f, F: Fabric>(
     heap: Global,
     fabric: &'f F,
     calls: &[Call<'_>],
-) -> Result<(Plan<'f, F>, Vec<Answer<Vec<u8>>>), AllocError>
-    ensures answers { IfOk result (λ p. map (giving vec_items) p.1.items ≡ answers (over F.Fabric.meaning fabric.now) nothing (map asked calls.now)) }
-    ensures numbers { IfOk result (λ p. map answer_told p.1.items ≡ map answer_told (answers (over F.Fabric.meaning fabric.now) nothing (map asked calls.now))) }
-    ensures held { IfOk result (λ p. jobs p.0 ≡ held (over F.Fabric.meaning fabric.now) nothing (map asked calls.now)) }
-    ensures fabric { IfOk result (λ p. setting F.Fabric.meaning p.0 ≡ over F.Fabric.meaning fabric.now) }
-    ensures clean { IfOk result (λ p. Clean (over F.Fabric.meaning fabric.now) (jobs p.0)) }
+) -> (Plan<'f, F>, Result<Vec<Answer<Vec<u8>>>, AllocError>)
+    ensures answers { IfOk result.1 (λ v. map (giving vec_items) v.items ≡ answers (over F.Fabric.meaning fabric.now) nothing (map asked calls.now)) }
+    ensures numbers { IfOk result.1 (λ v. map answer_told v.items ≡ map answer_told (answers (over F.Fabric.meaning fabric.now) nothing (map asked calls.now))) }
+    ensures held { jobs result.0 ≡ held (over F.Fabric.meaning fabric.now) nothing (map asked calls.now) }
+    ensures fabric { setting F.Fabric.meaning result.0 ≡ over F.Fabric.meaning fabric.now }
+    ensures clean { Clean (over F.Fabric.meaning fabric.now) (jobs result.0) }
     ensures back { (i : ℕ) → LoadsBack (over F.Fabric.meaning fabric.now) (held (over F.Fabric.meaning fabric.now) nothing (take i (map asked calls.now))) }
     ensures promise { Promise (over F.Fabric.meaning fabric.now) (map asked calls.now) }
 {
     calls_fit(calls);
-    let mut answers = Vec::new(heap);
+    let mut answers = Ok(Vec::new(heap));
     let mut plan = Plan::new(fabric);
     let mut page = [0; LONGEST_PART];
-    // a loop, since each call runs on the plan that the one before left, and a push may find no memory
+    // a loop, since each call runs on the plan that the one before left, also where its answer finds no memory
     for call in calls {
         let told = step(&mut plan, call, &mut page);
-        let answer = owned(heap, told, &page)?;
-        answers.push(answer)?;
+        answers = match answers {
+            Ok(answers) => with_answer(heap, answers, told, &page),
+            Err(no_memory) => Err(no_memory),
+        };
     }
-    Ok((plan, answers))
+    (plan, answers)
 }
 
 // After every list of calls on a new plan over every lawful network the plan is clean for all of time, and each call of the list

@@ -36,6 +36,6 @@ pub fn run_lines<F: Fabric>(
     ensures { IfOk result (λ v. map (giving vec_items) v.items ≡ answers (over F.Fabric.meaning fabric.now) nothing (asks (map said lines.now))) }
 {
     let calls = calls_of(heap, lines)?;
-    let (_, answers) = replay(heap, fabric, &calls)?;
-    Ok(answers)
+    let (_, answers) = replay(heap, fabric, &calls);
+    answers
 }
