@@ -13,8 +13,8 @@ use Rattle.replay.proofs.Loads.{load_told}
 use Rattle.replay.proofs.Promises.{new_clean, told}
 use Rattle.replay.specs.Calls.{loading}
 use Rattle.replay.specs.Promise.{LoadTold}
-use Rattle.verdict.specs.Judged.{FileClean, FileFabric, FileRefused, on}
-use Rattle.verdict.specs.Verdict.{file_part, judged_on, on_part, verdict_of}
+use Rattle.verdict.specs.Judged.{FileClean, FileFabric, FileRefused}
+use Rattle.verdict.specs.Verdict.{file_part, judged_on, on, on_part, verdict_of}
 use Rattle.verdict.specs.declared.fault.FileFault.{FileFault}
 use Rattle.verdict.specs.declared.fault.FileFault.TheVariants.{Extra, Load}
 use Rattle.verdict.proofs.Fabrics.{part_fabric}

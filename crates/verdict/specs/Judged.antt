@@ -7,13 +7,13 @@ use Rattle.records.specs.declared.record.Task.{Task}
 use Rattle.records.specs.declared.record.Message.{Message}
 use Rattle.refusals.specs.declared.refusal.Counts.{Counts}
 use Rattle.fabric.specs.Network.{Lawful, Network}
-use Rattle.jobs.specs.Jobs.{Jobs, Setting, nothing}
+use Rattle.jobs.specs.Jobs.{Jobs, nothing}
 use Rattle.plan.specs.Held.{counts_of}
 use Rattle.plan.specs.Loading.{job_part}
 use Rattle.plan.specs.declared.fault.LoadFault.{LoadFault}
 use Rattle.promise.specs.Clean.{Clean, In}
 use Rattle.replay.specs.Promise.{Exact, LoadTold, Try, load_tries}
-use Rattle.verdict.specs.Verdict.{file_part}
+use Rattle.verdict.specs.Verdict.{file_part, on}
 
 -- the network and the job part are the file's, and the network keeps the laws, with routes of at most 64 links
 pub record FileFabric (file : List ℕ) (net : Network) (part : List ℕ) : Type 0 where
@@ -21,10 +21,6 @@ pub record FileFabric (file : List ℕ) (net : Network) (part : List ℕ) : Type
   pub longest : ℕ
   pub bounded : longest ≤ 64
   pub lawful : Lawful longest net
-
--- what a plan over the network is created with
-abbrev pub on : Network → Setting
-on net = record { network = net }
 
 -- ---- verdicts
 
