@@ -1,4 +1,9 @@
 pub mod Turns
-pub mod Checks
-pub mod Placing
 pub mod Writing
+pub mod Loads
+pub mod Short
+pub mod Reading
+pub mod AllTaken
+pub mod Same
+pub mod Round
+pub mod Stands

@@ -10,15 +10,18 @@ use Rattle.records.specs.declared.record.Message.{Message}
 use Rattle.records.proofs.Back.{length_joined}
 use Rattle.refusals.specs.Written.{written}
 use Rattle.jobs.specs.Jobs.{Jobs}
+use Rattle.records.specs.declared.tables.Table.{Table}
+use Rattle.promise.specs.Tabled.{tabled}
 use Rattle.plan.specs.Held.{jobs}
+use Rattle.fabric.specs.declared.Fabric.{Ghosts}
 use Rattle.plan.specs.declared.plan.Plan.{Plan}
 use Rattle.plan.specs.Writing.{part_bytes, too_long}
 
 -- no table holds more than it has places for
-pub few_tasks : {F : Type 0} (p : Plan F) (most : ℕ) → 64 ≤ most → length (jobs p).tasks ≤ most
+pub few_tasks : {F : Type 0} {B : Ghosts F} (p : Plan F B) (most : ℕ) → 64 ≤ most → length (jobs p).tasks ≤ most
 few_tasks p most h = let fit = p.tasks.fit in omega (arith, length-take p.tasks.count p.tasks.places, fit, h)
 
-pub few_messages : {F : Type 0} (p : Plan F) → length (jobs p).messages ≤ 128
+pub few_messages : {F : Type 0} {B : Ghosts F} (p : Plan F B) → length (jobs p).messages ≤ 128
 few_messages p = let fit = p.messages.fit in omega (arith, length-take p.messages.count p.messages.places, fit)
 
 -- two bytes and 16 for each record
@@ -124,6 +127,9 @@ module _ (js : Jobs) (few : length js.tasks ≤ 128) (few_messages : length js.m
       let fits : too_long js (length out) ≡ false = length_tested js (length out) ∙ le-ltb (length out) _ enough in
       rw (fits, at) (both_written js out x y front (subst (λ n. y ≡ messages js ++ drop (length (messages js)) (take (length x - n) (drop n x))) at back))
 
--- no job part of a plan is longer than that of a full one
-pub part_bound : {F : Type 0} (p : Plan F) → length (part_bytes (jobs p)) ≤ 3076
-part_bound p = part_small (jobs p) (few_tasks p 64 (omega arith)) (few_messages p)
+-- no job part of what two tables hold is longer than that of full ones
+pub part_bound : (ts : Table Task 64) (ms : Table Message 128) → length (part_bytes (tabled ts ms)) ≤ 3076
+part_bound ts ms =
+    part_small (tabled ts ms)
+    (omega (arith, length-take ts.count ts.places, ts.fit))
+    (omega (arith, length-take ms.count ms.places, ms.fit))

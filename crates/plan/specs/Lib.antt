@@ -1,4 +1,5 @@
 pub mod Held
 pub mod Loading
+pub mod Round
 pub mod Told
 pub mod Writing

@@ -18,10 +18,9 @@ use Rattle.jobs.specs.Checks.{packet_refusal}
 use Rattle.jobs.specs.Rules.{message_refusal, offer_message, offer_task, task_refusal}
 use Rattle.jobs.specs.Takes.{task_takes}
 use Rattle.jobs.proofs.Checked.{message_checked}
-use Rattle.plan.specs.Loading.{load}
 use Rattle.promise.specs.Canonical.{Canonical}
 use Rattle.promise.specs.Clean.{In}
-use Rattle.promise.proofs.Kept.{load_kept, message_offer_kept, message_place_kept, task_offer_kept, task_place_kept}
+use Rattle.promise.proofs.Kept.{message_offer_kept, message_place_kept, task_offer_kept, task_place_kept}
 use Rattle.promise.proofs.Lists.{apart_none}
 use Rattle.promise.proofs.Passing.{message_passes, task_passes}
 
@@ -118,6 +117,3 @@ module _ (g : Setting) where
 
   pub message_place_canonical : (js : Jobs) (m : OpenMessage) → Canonical js → Canonical (place_message g js m).1
   message_place_canonical = message_place_kept g Canonical (message_canonical g)
-
-  pub load_canonical : (js : Jobs) (part : List ℕ) → Canonical js → Canonical (load g js part).1
-  load_canonical = load_kept g Canonical (task_canonical g) (message_canonical g)

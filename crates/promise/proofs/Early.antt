@@ -14,8 +14,8 @@ use Rattle.jobs.specs.declared.open.OpenMessage.{OpenMessage}
 use Rattle.jobs.specs.Open.{message_at, task_at}
 use Rattle.jobs.specs.Placings.{first_delay, first_phase, message_placed, place_message, place_task, task_placed}
 use Rattle.jobs.proofs.Checked.{message_checked}
-use Rattle.plan.proofs.Checks.{passed}
-use Rattle.plan.proofs.Placing.{task_passed}
+use Rattle.promise.proofs.Checks.{passed}
+use Rattle.promise.proofs.Placing.{task_passed}
 use Rattle.jobs.specs.Jobs.{Jobs, Setting, message_name, task_name, task_named, with_message, with_task}
 use Rattle.jobs.specs.Checks.{ends_checks, message_checks, packet_refusal, routed_checks, task_checks}
 use Rattle.jobs.specs.Rules.{message_refusal, message_timely, name_taken, offer_message, offer_task, offered, task_refusal, task_timely}

@@ -14,9 +14,8 @@ use Rattle.jobs.specs.Checks.{packet_refusal}
 use Rattle.jobs.specs.Rules.{message_refusal, offer_message, offer_task, offered, task_refusal}
 use Rattle.jobs.specs.Takes.{task_takes}
 use Rattle.jobs.proofs.Checked.{message_checked}
-use Rattle.plan.specs.Loading.{load}
 use Rattle.promise.specs.Clean.{Clean}
-use Rattle.promise.proofs.Kept.{load_kept, message_offer_kept, message_place_kept, task_offer_kept, task_place_kept}
+use Rattle.promise.proofs.Kept.{message_offer_kept, message_place_kept, task_offer_kept, task_place_kept}
 use Rattle.promise.proofs.Messages.{message_offer}
 use Rattle.promise.proofs.Passing.{message_passes, task_passes}
 use Rattle.promise.proofs.Tasks.{task_offer}
@@ -48,6 +47,3 @@ module _ (g : Setting) (most : ℕ) (few : most ≤ 64) (laws : Lawful most g.ne
 
   pub message_place_keeps : (js : Jobs) (m : OpenMessage) → Clean g js → Clean g (place_message g js m).1
   message_place_keeps = message_place_kept g (Clean g) message_taken
-
-  pub load_keeps : (js : Jobs) (part : List ℕ) → Clean g js → Clean g (load g js part).1
-  load_keeps = load_kept g (Clean g) (task_taken g) message_taken

@@ -1,5 +1,5 @@
 -- What each taken job keeps, offers, placings and loads keep. Assumes nothing.
-use Rattle.std.proofs.Common.{◌≡◌, ℕ, ◌+◌, ◌-◌, true, List, [], ◌∷◌, Some, None, Ok, Err, Option, Result, refl, subst}
+use Rattle.std.proofs.Common.{◌≡◌, ℕ, ◌+◌, ◌-◌, true, List, [], ◌∷◌, Some, None, Ok, Err, Option, Result, refl, ap, ◌∙◌, subst}
 use Rattle.holds.specs.Search.{first_from}
 use Rattle.holds.proofs.Search.{Found, first_found}
 use Rattle.records.specs.declared.record.Task.{Task}
@@ -13,8 +13,6 @@ use Rattle.jobs.specs.Open.{message_at, task_at}
 use Rattle.jobs.specs.Placings.{clear, delays, first_delay, first_phase, message_placed, place_message, place_task, task_placed}
 use Rattle.jobs.specs.Checks.{message_checks, task_checks}
 use Rattle.jobs.specs.Rules.{message_refusal, offer_message, offer_task, offered, task_refusal}
-use Rattle.plan.specs.Loading.{in_turn, job_part, load, load_tasks, loaded, on_taken, past_tasks}
-use Rattle.plan.specs.declared.fault.LayoutFault.{LayoutFault}
 
 -- a search goes on while the offer would be refused, so what it finds is not refused
 clear_found : {E : Type 0} (refusal : ℕ → Option E) (n v : ℕ) → first_from (λ x. clear (refusal x)) n 0 ≡ Some v → refusal v ≡ None
@@ -30,16 +28,6 @@ clear_found {E} refusal n v e =
 either : {E : Type 0} (P : Jobs → Type 0) (o : Option E) (js after : Jobs) → P js → (o ≡ None → P after) → P (offered o js after).1
 either P None js after here taken = taken refl
 either P (Some e) js after here taken = here
-
-module _ {X E : Type 0} (P : Jobs → Type 0) (refusal : Jobs → X → Option E) (held : Jobs → X → Jobs) (keep : (js : Jobs) (x : X) → P js → refusal js x ≡ None → P (held js x)) where
-  -- what each taken offer keeps, offers in turn keep
-  pub turn_keeps : (js : Jobs) (k : ℕ) (xs : List X) → P js → P (in_turn refusal held js k xs).1
-  turn_keeps js k [] here = here
-  turn_keeps js k (x ∷ xs) here = go (refusal js x) refl (λ e. turn_keeps (held js x) (k + 1) xs (keep js x here e))
-    where
-      go : (o : Option E) → refusal js x ≡ o → (refusal js x ≡ None → P (in_turn refusal held (held js x) (k + 1) xs).1) → P (on_taken k o js (in_turn refusal held (held js x) (k + 1) xs)).1
-      go None e next = next e
-      go (Some y) e next = here
 
 module _ (g : Setting) (P : Jobs → Type 0) where
   module _ (keep : (js : Jobs) (t : Task) → P js → task_refusal g.network.nodes js t ≡ None → P (with_task js t)) where
@@ -68,19 +56,23 @@ module _ (g : Setting) (P : Jobs → Type 0) where
         go None (Some v) is =
             keep js (message_at m v) here (clear_found (λ x. message_refusal g js (message_at m x)) (delays (task_named js.tasks m.source)) v is)
 
-  -- a load offers the tasks in turn and then, where all were taken, the messages
-  pub load_kept : ((js : Jobs) (t : Task) → P js → task_refusal g.network.nodes js t ≡ None → P (with_task js t))
-      → ((js : Jobs) (m : Message) → P js → message_refusal g js m ≡ None → P (with_message js m))
-      → (js : Jobs) (part : List ℕ) → P js → P (load g js part).1
-  load_kept keep_task keep_message js part here = go (job_part part)
-    where
-      tasks : (ts : List Task) → P (load_tasks g js 0 ts).1
-      tasks ts = turn_keeps P (task_refusal g.network.nodes) with_task keep_task js 0 ts here
+-- a value that a placing answers is one whose offer no check refuses
+pub task_placed_free : (g : Setting) (js : Jobs) (t : OpenTask) (v : ℕ) → Ok v ≡ (place_task g js t).0 → task_refusal g.network.nodes js (task_at t v) ≡ None
+task_placed_free g js t v told = go (task_checks g.network.nodes js (task_at t 0) None) (first_phase g js t) refl told
+  where
+    go : (c : Option TaskFault) (o : Option ℕ) → first_phase g js t ≡ o → Ok v ≡ (task_placed js t c o).0 → task_refusal g.network.nodes js (task_at t v) ≡ None
+    go (Some e) o is told = cc
+    go None None is told = cc
+    go None (Some w) is told =
+        let same : w ≡ v = cc in
+        clear_found (λ x. task_refusal g.network.nodes js (task_at t x)) (t.period + 1 - t.width) v (is ∙ ap Some same)
 
-      past : (ts : List Task) (ms : List Message) (r : Result (Unit {0}) (ℕ × TaskFault)) → P (past_tasks g ts ms r (load_tasks g js 0 ts).1).1
-      past ts ms (Err e) = tasks ts
-      past ts ms (Ok u) = turn_keeps P (message_refusal g) with_message keep_message (load_tasks g js 0 ts).1 0 ms (tasks ts)
-
-      go : (o : Result (List Task × List Message) LayoutFault) → P (loaded g js o).1
-      go (Err e) = here
-      go (Ok p) = past p.0 p.1 (load_tasks g js 0 p.0).0
+pub message_placed_free : (g : Setting) (js : Jobs) (m : OpenMessage) (v : ℕ) → Ok v ≡ (place_message g js m).0 → message_refusal g js (message_at m v) ≡ None
+message_placed_free g js m v told = go (message_checks g js (message_at m 0) (λ s d r. None)) (first_delay g js m) refl told
+  where
+    go : (c : Option MessageFault) (o : Option ℕ) → first_delay g js m ≡ o → Ok v ≡ (message_placed js m c o).0 → message_refusal g js (message_at m v) ≡ None
+    go (Some e) o is told = cc
+    go None None is told = cc
+    go None (Some w) is told =
+        let same : w ≡ v = cc in
+        clear_found (λ x. message_refusal g js (message_at m x)) (delays (task_named js.tasks m.source)) v (is ∙ ap Some same)

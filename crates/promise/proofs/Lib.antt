@@ -15,10 +15,10 @@ pub mod Kept
 pub mod Canonical
 pub mod Parts
 pub mod Ascending
-pub mod Same
-pub mod Turns
-pub mod Reading
-pub mod Round
-pub mod Short
 pub mod Early
 pub mod Droppings
+pub mod Checks
+pub mod Placing
+pub mod Tabled
+pub mod Room
+pub mod Places

@@ -18,7 +18,7 @@ use Rattle.jobs.specs.Checks.{packet_refusal}
 use Rattle.jobs.specs.Rules.{late, message_refusal, message_timely, offer_message, offered, task_timely}
 use Rattle.jobs.specs.Takes.{message_takes, packet_takes}
 use Rattle.jobs.proofs.Checked.{message_checked}
-use Rattle.plan.proofs.Checks.{passed}
+use Rattle.promise.proofs.Checks.{passed}
 use Rattle.promise.specs.Clean.{Clean, In, MessageMade, OnTime, PacketTakes}
 use Rattle.promise.specs.Offers.{FirstMeeting, MessageOffer, MessagePassed, MessageWhy, PacketsMeet}
 use Rattle.promise.proofs.Firsts.{FirstMet, first_met_none, first_met_some}

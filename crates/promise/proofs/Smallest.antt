@@ -13,7 +13,7 @@ use Rattle.jobs.specs.Open.{message_at, task_at}
 use Rattle.jobs.specs.Placings.{clear, delays, first_delay, first_phase, message_placed, place_message, place_task, task_placed}
 use Rattle.jobs.specs.Rules.{message_refusal, offered, task_refusal}
 use Rattle.jobs.proofs.Searches.{search_found, search_none}
-use Rattle.plan.proofs.Placing.{message_goes, task_goes}
+use Rattle.promise.proofs.Placing.{message_goes, task_goes}
 use Rattle.promise.specs.Clean.{Clean}
 use Rattle.promise.specs.Offers.{MessageFits, MessagePassed, Smallest, TaskFits, TaskPassed}
 use Rattle.promise.proofs.Messages as messages

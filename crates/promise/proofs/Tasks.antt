@@ -18,7 +18,7 @@ use Rattle.jobs.specs.Past.{TaskPast}
 use Rattle.jobs.specs.Rules.{offer_task, offered, task_refusal}
 use Rattle.jobs.specs.Takes.{core, number, task_take, task_takes, task_span}
 use Rattle.jobs.proofs.Limits.{task_holds}
-use Rattle.plan.proofs.Placing.{task_passed}
+use Rattle.promise.proofs.Placing.{task_passed}
 use Rattle.promise.specs.Clean.{Clean, In, MessageMade, PacketTakes, RunTakes, TaskMade, Ways}
 use Rattle.promise.specs.Offers.{FirstMeeting, TaskOffer, TaskPassed, TaskWhy, TasksMeet}
 use Rattle.promise.proofs.Firsts.{FirstMet, first_met_none, first_met_some}

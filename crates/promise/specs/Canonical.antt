@@ -11,9 +11,6 @@ use Rattle.records.specs.Named.{ascends}
 use Rattle.records.specs.declared.record.Task.{Task}
 use Rattle.records.specs.declared.record.Message.{Message}
 use Rattle.jobs.specs.Jobs.{Jobs, Setting, message_name, nothing, task_name}
-use Rattle.plan.specs.Held.{counts_of}
-use Rattle.plan.specs.Loading.{job_part, load}
-use Rattle.plan.specs.Writing.{part_bytes}
 use Rattle.promise.specs.Clean.{Clean, In}
 
 -- the names of the tasks ascend from 1 and those of the messages too, and there are at most 64 tasks and at most 128 messages
@@ -28,22 +25,7 @@ pub record ShortNames (js : Jobs) : Type 0 where
   pub tasks : (t : Task) → In t js.tasks → t.name ≤ 65535
   pub messages : (m : Message) → In m js.messages → m.name ≤ 65535
 
--- the bytes read as the held tasks and the held messages, record by record in the order in which they are held
-abbrev pub ReadsBack : Jobs → Type 0
-ReadsBack js = job_part (part_bytes js) ≡ Ok (js.tasks, js.messages)
-
--- the job part of a clean plan reads as its jobs, and loaded into a new plan over the same fabric every job is taken, and the same jobs
--- are held
-abbrev pub RoundTrip : Type 0
-RoundTrip =
-    (g : Setting) (longest : ℕ) → longest ≤ 64 → Lawful longest g.network → (js : Jobs) → Clean g js → Canonical js → ShortNames js
-    → ReadsBack js × (load g nothing (part_bytes js) ≡ (Ok (counts_of js), js))
-
 -- the same tasks and the same messages are held
 pub record SameMembers (a b : Jobs) : Type 0 where
   pub tasks : (t : Task) → In t a.tasks ↔ In t b.tasks
   pub messages : (m : Message) → In m a.messages ↔ In m b.messages
-
--- plans that hold the same jobs are the same, and write the same bytes
-abbrev pub SameBytes : Type 0
-SameBytes = (a b : Jobs) → Canonical a → Canonical b → SameMembers a b → (a ≡ b) × (part_bytes a ≡ part_bytes b)

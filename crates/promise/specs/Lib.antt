@@ -3,3 +3,4 @@ pub mod Offers
 pub mod Questions
 pub mod Canonical
 pub mod Droppings
+pub mod Tabled

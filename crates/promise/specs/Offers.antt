@@ -13,6 +13,8 @@ use Rattle.jobs.specs.declared.fault.TaskFault.{TaskFault}
 use Rattle.jobs.specs.declared.fault.TaskFault.TheVariants as task_fault
 use Rattle.jobs.specs.declared.fault.MessageFault.{MessageFault}
 use Rattle.jobs.specs.declared.fault.MessageFault.TheVariants as message_fault
+use Rattle.jobs.specs.declared.fault.PlacingFault.{PlacingFault}
+use Rattle.jobs.specs.declared.fault.PlacingFault.TheVariants as placing
 use Rattle.jobs.specs.declared.open.OpenTask.{OpenTask}
 use Rattle.jobs.specs.declared.open.OpenMessage.{OpenMessage}
 use Rattle.jobs.specs.Jobs.{Jobs, Setting, with_message, with_task}
@@ -150,3 +152,12 @@ pub record MessageFits (g : Setting) (js : Jobs) (m : OpenMessage) (s : Task) (v
 pub record Smallest {E : Type 0} (Fits : ℕ → Type 0) (none : E) (r : Result ℕ E) : Type 0 where
   pub some : (v : ℕ) → (r ≡ Ok v) ↔ (Fits v × ((w : ℕ) → w < v → Fits w → ⊥))
   pub no_value : (r ≡ Err none) ↔ ((v : ℕ) → Fits v → ⊥)
+
+-- a placing is answered by one of the earlier faults exactly where one of their conditions holds, and past them by the smallest value
+pub record TaskPlacing (g : Setting) (js : Jobs) (t : OpenTask) (r : Result ℕ (PlacingFault TaskFault)) : Type 0 where
+  pub early : ((e : TaskFault) × (r ≡ Err (placing.Offer e)) × EarlyTask e) ↔ (TaskPassed g js (task_at t 0) → ⊥)
+  pub past : TaskPassed g js (task_at t 0) → Smallest (TaskFits g js t) placing.NoFit r
+
+pub record MessagePlacing (g : Setting) (js : Jobs) (m : OpenMessage) (r : Result ℕ (PlacingFault MessageFault)) : Type 0 where
+  pub early : ((e : MessageFault) × (r ≡ Err (placing.Offer e)) × EarlyMessage e) ↔ ((s d : Task) (route : List ℕ) → MessagePassed g js (message_at m 0) s d route → ⊥)
+  pub past : (s d : Task) (route : List ℕ) → MessagePassed g js (message_at m 0) s d route → Smallest (MessageFits g js m s) placing.NoFit r

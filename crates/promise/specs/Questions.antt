@@ -2,10 +2,11 @@
 --   CoreTold     a told holder of a core at an instant is the run that has it, and none where no run has
 --   LinkTold     a told holder of a link at an instant is the packet that has it, and none where no packet has
 --   SlackTold    a told slack is the least over all packets of the held message, and none is told where no message has the name
-use Rattle.std.specs.Prelude.{◌≡◌, ℕ, ◌↔◌, ℤ, Some, None, Ok, Err, Option, Result, ◌≢◌}
+use Rattle.std.specs.Prelude.{◌≡◌, ℕ, ◌↔◌, ◌<◌, ◌≤◌, ℤ, Some, None, Ok, Err, Option, Result, ◌≢◌}
 use Rattle.records.specs.declared.record.Task.{Task}
 use Rattle.records.specs.declared.record.Message.{Message}
 use Rattle.jobs.specs.declared.fault.DropFault.{DropFault}
+use Rattle.jobs.specs.declared.fault.PlaceFault.{PlaceFault}
 use Rattle.jobs.specs.Jobs.{Jobs, Setting}
 use Rattle.jobs.specs.Slacks.{HeldSlack}
 use Rattle.promise.specs.Clean.{In, PacketTakes, RunTakes}
@@ -27,3 +28,8 @@ pub record LinkTold (g : Setting) (js : Jobs) (l n : ℕ) (o : Option (ℕ × �
 pub record SlackTold (g : Setting) (js : Jobs) (n : ℕ) (r : Result ℤ DropFault) : Type 0 where
   pub told : (v : ℤ) → r ≡ Ok v → HeldSlack g js n v
   pub refused : ((e : DropFault) × (r ≡ Err e)) ↔ ((m : Message) → In m js.messages → m.name ≢ n)
+
+-- a told holder of a place of the fabric, or a number that is not below its count
+abbrev pub Holds : (Option (ℕ × ℕ) → Type 0) → ℕ → ℕ → Result (Option (ℕ × ℕ)) PlaceFault → Type 0
+Holds Is count number (Ok o) = (number < count) × Is o
+Holds Is count number (Err e) = count ≤ number

@@ -10,7 +10,7 @@ use Rattle.jobs.specs.Rules.{message_refusal, offer_message, offer_task, task_re
 use Rattle.plan.specs.Loading.{in_turn, job_part, load, load_messages, load_tasks, loaded, on_taken, past_tasks}
 use Rattle.plan.specs.declared.fault.LayoutFault.{LayoutFault}
 use Rattle.promise.specs.Clean.{In}
-use Rattle.promise.proofs.Kept.{turn_keeps}
+use Rattle.plan.proofs.Loads.{turn_keeps}
 use Rattle.promise.proofs.Lists.{add_new, add_old, append_in, in_add, in_cases, in_here, in_left, in_nil, in_right, in_there}
 use Rattle.replay.specs.Promise.{Joined, LoadLeft, More, TakenMessage, TakenTask, Try, if_taken, message_try, part_tries, task_try, turn_tries}
 use Rattle.replay.proofs.Loads.{begun, tries}

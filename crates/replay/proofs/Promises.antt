@@ -19,24 +19,25 @@ use Rattle.plan.specs.declared.fault.LayoutFault.{LayoutFault}
 use Rattle.refusals.specs.Lines.{too_short}
 use Rattle.promise.specs.Canonical.{Canonical}
 use Rattle.promise.specs.Clean.{Clean, In}
-use Rattle.promise.specs.Questions.{CoreTold, LinkTold}
-use Rattle.promise.proofs.Canonical.{drop_message_canonical, drop_task_canonical, load_canonical, message_offer_canonical, message_place_canonical, nothing_canonical, task_offer_canonical, task_place_canonical}
+use Rattle.promise.specs.Questions.{CoreTold, Holds, LinkTold}
+use Rattle.promise.proofs.Canonical.{drop_message_canonical, drop_task_canonical, message_offer_canonical, message_place_canonical, nothing_canonical, task_offer_canonical, task_place_canonical}
 use Rattle.promise.proofs.Drops.{drop_message_keeps, drop_task_keeps}
-use Rattle.promise.proofs.Keeps.{load_keeps, message_offer_keeps, message_place_keeps, task_offer_keeps, task_place_keeps, task_taken}
-use Rattle.promise.proofs.Kept.{turn_keeps}
+use Rattle.promise.proofs.Keeps.{message_offer_keeps, message_place_keeps, task_offer_keeps, task_place_keeps, task_taken}
+use Rattle.plan.proofs.Loads.{load_canonical, load_keeps, turn_keeps}
 use Rattle.promise.proofs.Lists.{append_in, in_cases, in_nil}
 use Rattle.promise.proofs.Droppings.{message_dropping, task_dropping}
 use Rattle.promise.proofs.Early.{message_answer, message_place_early, task_answer, task_place_early}
-use Rattle.promise.proofs.Questions.{core_refused, core_told, link_refused, link_told, slack_told}
-use Rattle.promise.proofs.Round.{round_trip}
-use Rattle.promise.proofs.Same.{same_bytes}
-use Rattle.promise.proofs.Short.{nothing_short}
+use Rattle.promise.proofs.Places.{core_holds, link_holds}
+use Rattle.promise.proofs.Questions.{slack_told}
+use Rattle.plan.proofs.Round.{round_trip}
+use Rattle.plan.proofs.Same.{same_bytes}
+use Rattle.plan.proofs.Short.{nothing_short}
 use Rattle.promise.proofs.Smallest.{message_smallest, task_smallest}
 use Rattle.replay.proofs.Afters.{after}
 use Rattle.replay.proofs.Loads.{load_told}
 use Rattle.replay.proofs.Shorts.{held_short}
 use Rattle.replay.specs.Calls.{Ask, Said, answers, ask, asking_core, asking_link, asking_slack, dropping_message, dropping_task, held, loading, offering_message, offering_task, placing_message, placing_task, writing}
-use Rattle.replay.specs.Promise.{After, Exact, Holds, Promise, Told, Try, WriteTold, if_taken, load_tries, message_try, part_tries, task_try, turn_tries}
+use Rattle.replay.specs.Promise.{After, Exact, Promise, Told, Try, WriteTold, if_taken, load_tries, message_try, part_tries, task_try, turn_tries}
 
 -- a new plan holds nothing, so nothing in it is amiss
 pub new_clean : (g : Setting) → Clean g nothing
@@ -103,18 +104,6 @@ module _ (g : Setting) (most : ℕ) (few : most ≤ 64) (laws : Lawful most g.ne
           (inside (load_tasks g js 0 p.0).0 y _ b))
           (append_in y (turn_tries task_try (offer_task g) js p.0) _ k)
 
-  -- a number that is not refused is below its count
-  within : {r : Result (Option (ℕ × ℕ)) PlaceFault} {count number : ℕ} {o : Option (ℕ × ℕ)} → (count ≤ number → r ≡ Err no_place) → r ≡ Ok o → number < count
-  within {count = count} {number = number} refused ok = ⊎_elim (λ l. l) (λ h. let f = refused h in cc) (cases_lt number count)
-
-  core_holds : (js : Jobs) (x n : ℕ) → Clean g js → (r : Result (Option (ℕ × ℕ)) PlaceFault) → core_holder g js x n ≡ r → Holds (CoreTold js x n) g.network.nodes x r
-  core_holds js x n c (Ok o) e = (within (core_refused g js x n no_place).1 e, core_told g js c x n o e)
-  core_holds js x n c (Err f) e = (core_refused g js x n f).0 e
-
-  link_holds : (js : Jobs) (l n : ℕ) → Clean g js → (r : Result (Option (ℕ × ℕ)) PlaceFault) → link_holder g js l n ≡ r → Holds (LinkTold g js l n) g.network.links l r
-  link_holds js l n c (Ok o) e = (within (link_refused g js l n no_place).1 e, link_told g most few laws js c l n o e)
-  link_holds js l n c (Err f) e = (link_refused g js l n f).0 e
-
   -- a call on a clean plan is answered as promised
   pub told : (js : Jobs) → Clean g js → (a : Ask) → Told g js a (ask g js a).0
   told js c (offering_task t) = ((offer_task g js t).0, refl, task_exact js t c)
@@ -126,8 +115,8 @@ module _ (g : Setting) (most : ℕ) (few : most ≤ 64) (laws : Lawful most g.ne
   told js c (dropping_message n) = ((drop_message js n).0, refl, message_dropping js n)
   told js c (loading part) = ((load g js part).0, refl, load_told g js part, load_exact js part c)
   told js c (asking_slack n) = (slack g js n, refl, slack_told g most few laws js c n)
-  told js c (asking_core x n) = (core_holder g js x n, refl, core_holds js x n c (core_holder g js x n) refl)
-  told js c (asking_link l n) = (link_holder g js l n, refl, link_holds js l n c (link_holder g js l n) refl)
+  told js c (asking_core x n) = (core_holder g js x n, refl, core_holds g most few laws js x n c (core_holder g js x n) refl)
+  told js c (asking_link l n) = (link_holder g js l n, refl, link_holds g most few laws js l n c (link_holder g js l n) refl)
   told js c (writing room) = (write js room, refl, go (too_long js room) refl)
     where
       go : (b : Bool) → b ≡ too_long js room → WriteTold js room (if b then Err too_short else Ok (part_bytes js))

@@ -6,7 +6,7 @@ use Rattle.jobs.specs.Jobs.{Jobs, Setting}
 use Rattle.promise.specs.Canonical.{ShortNames}
 use Rattle.promise.specs.Clean.{In}
 use Rattle.promise.proofs.Lists.{in_cases, in_here, in_nil, in_there}
-use Rattle.promise.proofs.Short.{drop_message_short, drop_task_short, load_short, offer_message_short, offer_task_short, place_message_short, place_task_short}
+use Rattle.plan.proofs.Short.{drop_message_short, drop_task_short, load_short, offer_message_short, offer_task_short, place_message_short, place_task_short}
 use Rattle.replay.specs.declared.calls.Call.{Call}
 use Rattle.replay.specs.Calls.{Ask, ask, asked, asking_core, asking_link, asking_slack, dropping_message, dropping_task, held, loading, offering_message, offering_task, placing_message, placing_task, writing}
 use Rattle.replay.specs.Short.{ShortAsk}

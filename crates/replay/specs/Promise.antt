@@ -27,11 +27,12 @@ use Rattle.plan.specs.Writing.{part_bytes}
 use Rattle.plan.specs.declared.fault.LayoutFault.{LayoutFault}
 use Rattle.plan.specs.declared.fault.LoadFault.{LoadFault}
 use Rattle.plan.specs.declared.fault.LoadFault.TheVariants as load_fault
-use Rattle.promise.specs.Canonical.{Canonical, ReadsBack, SameMembers}
+use Rattle.plan.specs.Round.{ReadsBack}
+use Rattle.promise.specs.Canonical.{Canonical, SameMembers}
 use Rattle.promise.specs.Clean.{Clean, In}
 use Rattle.promise.specs.Droppings.{MessageDropped, TaskDropped}
-use Rattle.promise.specs.Offers.{EarlyMessage, EarlyTask, MessageAnswer, MessageFits, MessagePassed, Smallest, TaskAnswer, TaskFits, TaskPassed}
-use Rattle.promise.specs.Questions.{CoreTold, LinkTold, SlackTold}
+use Rattle.promise.specs.Offers.{EarlyMessage, EarlyTask, MessageAnswer, MessageFits, MessagePassed, Smallest, TaskAnswer, TaskFits, TaskPassed, TaskPlacing, MessagePlacing}
+use Rattle.promise.specs.Questions.{CoreTold, Holds, LinkTold, SlackTold}
 use Rattle.replay.specs.declared.calls.Answer.TheVariants as answer
 use Rattle.replay.specs.Calls.{Ask, Said, answers, asking_core, asking_link, asking_slack, dropping_message, dropping_task, held, loading, offering_message, offering_task, placing_message, placing_task, writing}
 use Rattle.replay.specs.Short.{ShortAsk}
@@ -90,20 +91,6 @@ abbrev pub LoadTold : Setting → Jobs → List ℕ → Result Counts LoadFault 
 LoadTold g js part = PartTold (load_tries g js part) (job_part part)
 
 -- ---- answers
-
--- a told holder of a place of the fabric, or a number that is not below its count
-abbrev pub Holds : (Option (ℕ × ℕ) → Type 0) → ℕ → ℕ → Result (Option (ℕ × ℕ)) PlaceFault → Type 0
-Holds Is count number (Ok o) = (number < count) × Is o
-Holds Is count number (Err e) = count ≤ number
-
--- a placing is answered by one of the earlier faults exactly where one of their conditions holds, and past them by the smallest value
-pub record TaskPlacing (g : Setting) (js : Jobs) (t : OpenTask) (r : Result ℕ (PlacingFault TaskFault)) : Type 0 where
-  pub early : ((e : TaskFault) × (r ≡ Err (placing.Offer e)) × EarlyTask e) ↔ (TaskPassed g js (task_at t 0) → ⊥)
-  pub past : TaskPassed g js (task_at t 0) → Smallest (TaskFits g js t) placing.NoFit r
-
-pub record MessagePlacing (g : Setting) (js : Jobs) (m : OpenMessage) (r : Result ℕ (PlacingFault MessageFault)) : Type 0 where
-  pub early : ((e : MessageFault) × (r ≡ Err (placing.Offer e)) × EarlyMessage e) ↔ ((s d : Task) (route : List ℕ) → MessagePassed g js (message_at m 0) s d route → ⊥)
-  pub past : (s d : Task) (route : List ℕ) → MessagePassed g js (message_at m 0) s d route → Smallest (MessageFits g js m s) placing.NoFit r
 
 -- a write gives the whole job part, which has the room, and is refused where it has not
 abbrev pub WriteTold : Jobs → ℕ → Result (List ℕ) BufferFault → Type 0

@@ -27,9 +27,9 @@ fn dispatch<F: Fabric>(
     call: &Call<'_>,
     page: &mut [u8; LONGEST_PART],
 ) -> Answer<usize>
-    ensures answer { result ≡ giving length (ask (setting F.Fabric.meaning plan.old) (jobs plan.old) (asked call.now)).0 }
-    ensures page { page.new ≡ written page.old 0 (bytes_given (ask (setting F.Fabric.meaning plan.old) (jobs plan.old) (asked call.now)).0) }
-    ensures after { jobs plan.new ≡ (ask (setting F.Fabric.meaning plan.old) (jobs plan.old) (asked call.now)).1 }
+    ensures answer { result ≡ giving length (ask (setting plan.old) (jobs plan.old) (asked call.now)).0 }
+    ensures page { page.new ≡ written page.old 0 (bytes_given (ask (setting plan.old) (jobs plan.old) (asked call.now)).0) }
+    ensures after { jobs plan.new ≡ (ask (setting plan.old) (jobs plan.old) (asked call.now)).1 }
     ensures fabric { plan.new.fabric ≡ plan.old.fabric }
     ensures unchanged { stays result ≡ true → plan.new ≡ plan.old }
 {
@@ -55,19 +55,19 @@ pub fn step<F: Fabric>(
     call: &Call<'_>,
     page: &mut [u8; LONGEST_PART],
 ) -> Answer<usize>
-    ensures answer { result ≡ giving length (ask (setting F.Fabric.meaning plan.old) (jobs plan.old) (asked call.now)).0 }
-    ensures page { page.new ≡ written page.old 0 (bytes_given (ask (setting F.Fabric.meaning plan.old) (jobs plan.old) (asked call.now)).0) }
-    ensures after { jobs plan.new ≡ (ask (setting F.Fabric.meaning plan.old) (jobs plan.old) (asked call.now)).1 }
+    ensures answer { result ≡ giving length (ask (setting plan.old) (jobs plan.old) (asked call.now)).0 }
+    ensures page { page.new ≡ written page.old 0 (bytes_given (ask (setting plan.old) (jobs plan.old) (asked call.now)).0) }
+    ensures after { jobs plan.new ≡ (ask (setting plan.old) (jobs plan.old) (asked call.now)).1 }
     ensures fabric { plan.new.fabric ≡ plan.old.fabric }
     ensures unchanged { stays result ≡ true → plan.new ≡ plan.old }
-    ensures keeps { Clean (setting F.Fabric.meaning plan.old) (jobs plan.old) → Clean (setting F.Fabric.meaning plan.old) (jobs plan.new) }
-    ensures told { Clean (setting F.Fabric.meaning plan.old) (jobs plan.old) → Told (setting F.Fabric.meaning plan.old) (jobs plan.old) (asked call.now) (read_off page.new result) }
-    ensures numbers { answer_told result ≡ answer_told (ask (setting F.Fabric.meaning plan.old) (jobs plan.old) (asked call.now)).0 }
-    ensures left { Clean (setting F.Fabric.meaning plan.old) (jobs plan.old) → After (setting F.Fabric.meaning plan.old) (jobs plan.old) (asked call.now) (read_off page.new result) (jobs plan.new) }
-    ensures canonical { Canonical (jobs plan.old) → Canonical (jobs plan.new) }
-    ensures short { ShortNames (jobs plan.old) → ShortNames (jobs plan.new) }
+    ensures keeps { Clean (setting plan.new) (jobs plan.new) }
+    ensures told { Told (setting plan.old) (jobs plan.old) (asked call.now) (read_off page.new result) }
+    ensures numbers { answer_told result ≡ answer_told (ask (setting plan.old) (jobs plan.old) (asked call.now)).0 }
+    ensures left { After (setting plan.old) (jobs plan.old) (asked call.now) (read_off page.new result) (jobs plan.new) }
+    ensures canonical { Canonical (jobs plan.new) }
+    ensures short { ShortNames (jobs plan.new) }
+    ensures back { LoadsBack (setting plan.new) (jobs plan.new) }
 {
-    call_fits(call);
     dispatch(plan, call, page)
 }
 
@@ -115,7 +115,7 @@ pub fn replay<'f, F: Fabric>(
     ensures answers { IfOk result.1 (λ v. map (giving vec_items) v.items ≡ answers (over F.Fabric.meaning fabric.now) nothing (map asked calls.now)) }
     ensures numbers { IfOk result.1 (λ v. map answer_told v.items ≡ map answer_told (answers (over F.Fabric.meaning fabric.now) nothing (map asked calls.now))) }
     ensures held { jobs result.0 ≡ held (over F.Fabric.meaning fabric.now) nothing (map asked calls.now) }
-    ensures fabric { setting F.Fabric.meaning result.0 ≡ over F.Fabric.meaning fabric.now }
+    ensures fabric { setting result.0 ≡ over F.Fabric.meaning fabric.now }
     ensures clean { Clean (over F.Fabric.meaning fabric.now) (jobs result.0) }
     ensures back { (i : ℕ) → LoadsBack (over F.Fabric.meaning fabric.now) (held (over F.Fabric.meaning fabric.now) nothing (take i (map asked calls.now))) }
     ensures promise { Promise (over F.Fabric.meaning fabric.now) (map asked calls.now) }

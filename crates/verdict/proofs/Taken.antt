@@ -12,7 +12,7 @@ use Rattle.jobs.specs.Rules.{message_refusal, task_refusal}
 use Rattle.plan.specs.Loading.{in_turn, job_part, load, load_messages, load_tasks, loaded, on_taken, past_messages, past_tasks}
 use Rattle.plan.specs.declared.fault.LayoutFault.{LayoutFault}
 use Rattle.promise.specs.Clean.{In}
-use Rattle.promise.proofs.Kept.{turn_keeps}
+use Rattle.plan.proofs.Loads.{turn_keeps}
 use Rattle.promise.proofs.Lists.{add_new, add_old, in_add, in_cases, in_here, in_nil, in_there}
 
 -- ---- offers in turn

@@ -8,7 +8,7 @@ use Rattle.listed.specs.declared.faults.SetFault.{SetFault}
 use Rattle.jobs.specs.Jobs.{nothing}
 use Rattle.plan.specs.Loading.{load}
 use Rattle.plan.specs.declared.fault.LoadFault.{LoadFault}
-use Rattle.promise.proofs.Keeps.{load_keeps}
+use Rattle.plan.proofs.Loads.{load_keeps}
 use Rattle.replay.proofs.Loads.{load_told}
 use Rattle.replay.proofs.Promises.{new_clean, told}
 use Rattle.replay.specs.Calls.{loading}

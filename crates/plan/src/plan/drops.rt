@@ -1,7 +1,9 @@
 // Droppings of tasks and messages.
 ghost use Rattle.jobs.specs.Drops.{drop_message, drop_task};
 ghost use Rattle.jobs.specs.Numbers.{drop_told};
-ghost use Rattle.plan.specs.Held.{jobs};
+ghost use Rattle.plan.specs.Held.{jobs, setting};
+ghost use Rattle.promise.specs.Clean.{Clean};
+ghost use Rattle.promise.specs.Droppings.{MessageDropped, TaskDropped};
 ghost use Rattle.refusals.specs.Told.{refusal_of};
 ghost use Rattle.std.specs.Prelude.{◌≡◌, false, is_ok};
 
@@ -19,6 +21,8 @@ impl<'f, F: Fabric> Plan<'f, F> {
         ensures after { jobs self.new ≡ (drop_task (jobs self.old) name).1 }
         ensures fabric { self.new.fabric ≡ self.old.fabric }
         ensures refused { is_ok result ≡ false → self.new ≡ self.old }
+        ensures told_model { TaskDropped (jobs self.old) name result }
+        ensures clean { Clean (setting self.new) (jobs self.new) }
     {
         if find(self.tasks.held(), name).is_none() {
             return Err(DropFault::Unknown);
@@ -38,6 +42,8 @@ impl<'f, F: Fabric> Plan<'f, F> {
         ensures after { jobs self.new ≡ (drop_message (jobs self.old) name).1 }
         ensures fabric { self.new.fabric ≡ self.old.fabric }
         ensures refused { is_ok result ≡ false → self.new ≡ self.old }
+        ensures told_model { MessageDropped (jobs self.old) name result }
+        ensures clean { Clean (setting self.new) (jobs self.new) }
     {
         self.messages.remove(name).ok_or(DropFault::Unknown)?;
         Ok(())

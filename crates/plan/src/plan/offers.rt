@@ -1,5 +1,5 @@
 // New plans, and the offers of tasks and messages.
-ghost use Rattle.std.specs.Prelude.{◌≡◌, ℕ, ◌<◌, true, false, List, length, is_ok, Some, None, Option, MatchResult};
+ghost use Rattle.std.specs.Prelude.{◌≡◌, ℕ, ◌<◌, ◌≤◌, true, false, List, length, is_ok, Some, None, Option, MatchResult};
 ghost use Rattle.jobs.specs.Boards.{setting_of};
 ghost use Rattle.jobs.specs.Jobs.{nothing, with_message, with_task};
 ghost use Rattle.jobs.specs.Numbers.{message_told, task_told};
@@ -11,6 +11,8 @@ ghost use Rattle.jobs.specs.declared.fault.MessageFault.{MessageFault as Message
 ghost use Rattle.jobs.specs.declared.fault.TaskFault.{TaskFault as TaskFaultOf};
 ghost use Rattle.records.specs.declared.record.Task.{Task as TaskOf};
 ghost use Rattle.plan.specs.Held.{jobs, setting};
+ghost use Rattle.promise.specs.Clean.{Clean};
+ghost use Rattle.promise.specs.Offers.{MessageAnswer, TaskAnswer};
 ghost use Rattle.refusals.specs.Told.{checked, refusal_of};
 
 use super::Plan;
@@ -24,6 +26,11 @@ use jobs::{message, task};
 use records::named::find;
 use records::record::{Message, Task};
 use records::tables::Table;
+
+// A name fits in two bytes, which is known only of a parameter.
+fn name_fits(name: u16)
+    ensures { name ≤ 65535 }
+{}
 
 impl<'f, F: Fabric> Plan<'f, F> {
     pub fn new(fabric: &'f F) -> Self
@@ -39,7 +46,7 @@ impl<'f, F: Fabric> Plan<'f, F> {
 
     // What packets go by.
     pub(super) fn board(&self) -> Board<'_, F>
-        ensures over { setting_of F.Fabric.meaning result ≡ setting F.Fabric.meaning self.now }
+        ensures over { setting_of F.Fabric.meaning result ≡ setting self.now }
         ensures tasks { result.tasks.now ≡ (jobs self.now).tasks }
     {
         Board {
@@ -50,7 +57,7 @@ impl<'f, F: Fabric> Plan<'f, F> {
 
     // The checks of a task that come before meetings.
     pub(super) fn task_checks(&self, t: &Task) -> Result<(), TaskFault>
-        ensures { MatchResult result (λ _. TaskPast (setting F.Fabric.meaning self.now).network.nodes (jobs self.now) t.now) (λ e. (rest : Option TaskFaultOf) → task_checks (setting F.Fabric.meaning self.now).network.nodes (jobs self.now) t.now rest ≡ Some e) }
+        ensures { MatchResult result (λ _. TaskPast (setting self.now).network.nodes (jobs self.now) t.now) (λ e. (rest : Option TaskFaultOf) → task_checks (setting self.now).network.nodes (jobs self.now) t.now rest ≡ Some e) }
     {
         let held = self.tasks.held();
         if t.name == 0 || find(held, t.name).is_some() {
@@ -70,7 +77,7 @@ impl<'f, F: Fabric> Plan<'f, F> {
 
     // A task, by all of its checks in order.
     fn check_task(&self, t: &Task) -> Result<(), TaskFault>
-        ensures { result ≡ checked (task_refusal (setting F.Fabric.meaning self.now).network.nodes (jobs self.now) t.now) }
+        ensures { result ≡ checked (task_refusal (setting self.now).network.nodes (jobs self.now) t.now) }
     {
         self.task_checks(t)?;
         first_task_meeting(self.tasks.held(), t).map_or(
@@ -81,20 +88,23 @@ impl<'f, F: Fabric> Plan<'f, F> {
 
     // One task more: there is room, so the insertion is not refused.
     pub(super) fn hold_task(&mut self, t: Task)
-        requires { length (jobs self.old).tasks < 64 }
+        requires { task_refusal (setting self.old).network.nodes (jobs self.old) t ≡ None }
         ensures after { jobs self.new ≡ with_task (jobs self.old) t }
         ensures fabric { self.new.fabric ≡ self.old.fabric }
     {
+        name_fits(t.name);
         let _ = self.tasks.insert(t);
     }
 
     // The task is held where no check refuses it.
     pub fn offer_task(&mut self, t: Task) -> Result<(), TaskFault>
-        ensures answer { result ≡ (offer_task (setting F.Fabric.meaning self.old) (jobs self.old) t).0 }
-        ensures told { refusal_of task_told result ≡ refusal_of task_told (offer_task (setting F.Fabric.meaning self.old) (jobs self.old) t).0 }
-        ensures after { jobs self.new ≡ (offer_task (setting F.Fabric.meaning self.old) (jobs self.old) t).1 }
+        ensures answer { result ≡ (offer_task (setting self.old) (jobs self.old) t).0 }
+        ensures told { refusal_of task_told result ≡ refusal_of task_told (offer_task (setting self.old) (jobs self.old) t).0 }
+        ensures after { jobs self.new ≡ (offer_task (setting self.old) (jobs self.old) t).1 }
         ensures fabric { self.new.fabric ≡ self.old.fabric }
         ensures refused { is_ok result ≡ false → self.new ≡ self.old }
+        ensures told_model { TaskAnswer (setting self.old) (jobs self.old) t result }
+        ensures clean { Clean (setting self.new) (jobs self.new) }
     {
         self.check_task(&t)?;
         self.hold_task(t);
@@ -103,7 +113,7 @@ impl<'f, F: Fabric> Plan<'f, F> {
 
     // The checks of a message up to its times: its source and destination, where it passes them.
     fn message_ends(&self, m: &Message) -> Result<Ends, MessageFault>
-        ensures { MatchResult result (λ p. EndsPast (jobs self.now) m.now p.source p.destination) (λ e. (rest : TaskOf → TaskOf → List ℕ → Option MessageFaultOf) → message_checks (setting F.Fabric.meaning self.now) (jobs self.now) m.now rest ≡ Some e) }
+        ensures { MatchResult result (λ p. EndsPast (jobs self.now) m.now p.source p.destination) (λ e. (rest : TaskOf → TaskOf → List ℕ → Option MessageFaultOf) → message_checks (setting self.now) (jobs self.now) m.now rest ≡ Some e) }
     {
         if m.name == 0 || find(self.messages.held(), m.name).is_some() {
             return Err(MessageFault::Name);
@@ -117,7 +127,7 @@ impl<'f, F: Fabric> Plan<'f, F> {
 
     // The checks of a message that come before lateness and meetings: its source and destination, where it passes them.
     pub(super) fn message_checks(&self, m: &Message) -> Result<Ends, MessageFault>
-        ensures { MatchResult result (λ p. MessagePast (setting F.Fabric.meaning self.now) (jobs self.now) m.now p.source p.destination) (λ e. (rest : TaskOf → TaskOf → List ℕ → Option MessageFaultOf) → message_checks (setting F.Fabric.meaning self.now) (jobs self.now) m.now rest ≡ Some e) }
+        ensures { MatchResult result (λ p. MessagePast (setting self.now) (jobs self.now) m.now p.source p.destination) (λ e. (rest : TaskOf → TaskOf → List ℕ → Option MessageFaultOf) → message_checks (setting self.now) (jobs self.now) m.now rest ≡ Some e) }
     {
         let ends = self.message_ends(m)?;
         self.route_checks(&ends)?;
@@ -126,7 +136,7 @@ impl<'f, F: Fabric> Plan<'f, F> {
 
     // The checks of the route and the room.
     fn route_checks(&self, ends: &Ends) -> Result<(), MessageFault>
-        ensures { MatchResult result (λ _. RoutePast (setting F.Fabric.meaning self.now) (jobs self.now) ends.now.source ends.now.destination) (λ e. (rest : List ℕ → Option MessageFaultOf) → routed_checks (jobs self.now) ((setting F.Fabric.meaning self.now).network.route ends.now.source.core ends.now.destination.core) rest ≡ Some e) }
+        ensures { MatchResult result (λ _. RoutePast (setting self.now) (jobs self.now) ends.now.source ends.now.destination) (λ e. (rest : List ℕ → Option MessageFaultOf) → routed_checks (jobs self.now) ((setting self.now).network.route ends.now.source.core ends.now.destination.core) rest ≡ Some e) }
     {
         let from = ends.source.core as usize;
         let to = ends.destination.core as usize;
@@ -141,7 +151,7 @@ impl<'f, F: Fabric> Plan<'f, F> {
 
     // The packets of a message between two tasks past those checks: neither late nor met.
     fn check_packets(&self, ends: &Ends, m: &Message) -> Result<(), MessageFault>
-        ensures { result ≡ checked (on_way (setting F.Fabric.meaning self.now) (jobs self.now) m.now ends.now.source ends.now.destination ((setting F.Fabric.meaning self.now).network.route ends.now.source.core ends.now.destination.core)) }
+        ensures { result ≡ checked (on_way (setting self.now) (jobs self.now) m.now ends.now.source ends.now.destination ((setting self.now).network.route ends.now.source.core ends.now.destination.core)) }
     {
         let way = Way::between(self.fabric, ends, m).ok_or(MessageFault::NoRoute)?;
         late_by(&way, &ends.destination, m).map_or(Ok(()), |slack| Err(MessageFault::Late(slack)))?;
@@ -153,7 +163,7 @@ impl<'f, F: Fabric> Plan<'f, F> {
     // A message between two held tasks, by its checks past the limits.
     #[tactic(auto, using(jobs::proofs::Checked::routed_checked))]
     fn check_way(&self, ends: &Ends, m: &Message) -> Result<(), MessageFault>
-        ensures { result ≡ checked (routed_refusal (setting F.Fabric.meaning self.now) (jobs self.now) m.now ends.now.source ends.now.destination ((setting F.Fabric.meaning self.now).network.route ends.now.source.core ends.now.destination.core)) }
+        ensures { result ≡ checked (routed_refusal (setting self.now) (jobs self.now) m.now ends.now.source ends.now.destination ((setting self.now).network.route ends.now.source.core ends.now.destination.core)) }
     {
         self.route_checks(ends)?;
         self.check_packets(ends, m)
@@ -161,7 +171,7 @@ impl<'f, F: Fabric> Plan<'f, F> {
 
     // A message, by all of its checks in order.
     fn check_message(&self, m: &Message) -> Result<(), MessageFault>
-        ensures { result ≡ checked (message_refusal (setting F.Fabric.meaning self.now) (jobs self.now) m.now) }
+        ensures { result ≡ checked (message_refusal (setting self.now) (jobs self.now) m.now) }
     {
         let ends = self.message_ends(m)?;
         self.check_way(&ends, m)
@@ -169,20 +179,23 @@ impl<'f, F: Fabric> Plan<'f, F> {
 
     // One message more: there is room, so the insertion is not refused.
     pub(super) fn hold_message(&mut self, m: Message)
-        requires { length (jobs self.old).messages < 128 }
+        requires { message_refusal (setting self.old) (jobs self.old) m ≡ None }
         ensures after { jobs self.new ≡ with_message (jobs self.old) m }
         ensures fabric { self.new.fabric ≡ self.old.fabric }
     {
+        name_fits(m.name);
         let _ = self.messages.insert(m);
     }
 
     // The message is held where no check refuses it.
     pub fn offer_message(&mut self, m: Message) -> Result<(), MessageFault>
-        ensures answer { result ≡ (offer_message (setting F.Fabric.meaning self.old) (jobs self.old) m).0 }
-        ensures told { refusal_of message_told result ≡ refusal_of message_told (offer_message (setting F.Fabric.meaning self.old) (jobs self.old) m).0 }
-        ensures after { jobs self.new ≡ (offer_message (setting F.Fabric.meaning self.old) (jobs self.old) m).1 }
+        ensures answer { result ≡ (offer_message (setting self.old) (jobs self.old) m).0 }
+        ensures told { refusal_of message_told result ≡ refusal_of message_told (offer_message (setting self.old) (jobs self.old) m).0 }
+        ensures after { jobs self.new ≡ (offer_message (setting self.old) (jobs self.old) m).1 }
         ensures fabric { self.new.fabric ≡ self.old.fabric }
         ensures refused { is_ok result ≡ false → self.new ≡ self.old }
+        ensures told_model { MessageAnswer (setting self.old) (jobs self.old) m result }
+        ensures clean { Clean (setting self.new) (jobs self.new) }
     {
         self.check_message(&m)?;
         self.hold_message(m);

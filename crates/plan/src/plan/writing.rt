@@ -1,5 +1,8 @@
 // Writing the job part.
-ghost use Rattle.plan.specs.Held.{jobs};
+ghost use Rattle.plan.specs.Held.{counts_of, jobs, setting};
+ghost use Rattle.jobs.specs.Jobs.{nothing};
+ghost use Rattle.plan.specs.Loading.{load};
+ghost use Rattle.plan.specs.Round.{ReadsBack};
 ghost use Rattle.plan.specs.Writing.{part_bytes, too_long};
 ghost use Rattle.refusals.specs.Lines.{too_short};
 ghost use Rattle.refusals.specs.Told.{buffer_told, plain, refusal_of};
@@ -24,6 +27,7 @@ impl<'f, F: Fabric> Plan<'f, F> {
         ensures buffer { out.new ≡ (if too_long (jobs self.now) (length out.old) then out.old else written out.old 0 (part_bytes (jobs self.now))) }
         ensures told { refusal_of buffer_told result ≡ (if too_long (jobs self.now) (length out.old) then Some (plain 27) else None) }
         ensures bound { length (part_bytes (jobs self.now)) ≤ 3076 }
+        ensures back { ReadsBack (jobs self.now) × (load (setting self.now) nothing (part_bytes (jobs self.now)) ≡ (Ok (counts_of (jobs self.now)), jobs self.now)) }
     {
         let tasks = self.tasks.held();
         let messages = self.messages.held();

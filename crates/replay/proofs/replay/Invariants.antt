@@ -8,6 +8,6 @@ use Rattle.replay.proofs.replay.Given as goal
 abbrev pub invariant-loop-call : goal.invariant-loop-call
 invariant-loop-call g l =
     let s = over g.F.Fabric.meaning l.fabric in
-    (setting g.F.Fabric.meaning l.plan ≡ s)
+    (setting l.plan ≡ s)
     × IfOk l.answers (λ v. map (giving vec_items) (vec_items v) ++ answers s (jobs l.plan) (map asked (drop l.call-index l.calls)) ≡ answers s nothing (map asked l.calls))
     × (held s (jobs l.plan) (map asked (drop l.call-index l.calls)) ≡ held s nothing (map asked l.calls))

@@ -9,6 +9,6 @@ pub returns-in_err-ends : goal.returns-in_err-ends
 returns-in_err-ends g c =
     let p = c.args.self.now in
     let m = c.args.m.now in
-    let at = setting g.F.Fabric.meaning p in
+    let at = setting p in
     let refused : message_refusal at (jobs p) m ≡ Some c.in_err-ends.field-0.0 = message_checked at (jobs p) m ∙ c.in_err-ends.ensures (packet_refusal at (jobs p) m) in
     search rules

@@ -7,14 +7,14 @@ use Rattle.jobs.specs.Open.{message_at}
 use Rattle.jobs.specs.Past.{MessagePast}
 use Rattle.jobs.specs.Placings.{clear, first_delay, on_way}
 use Rattle.plan.specs.Held.{jobs, setting}
-use Rattle.plan.proofs.Placing.{delays_are, message_answers, message_goes}
+use Rattle.promise.proofs.Placing.{delays_are, message_answers, message_goes}
 use Rattle.plan.proofs.plan.Plan.delay_for.Goals as goal
 
 pub returns : goal.returns
 returns g c =
     let p = c.args.self.now in
     let m = c.args.m.now in
-    let s = setting g.F.Fabric.meaning p in
+    let s = setting p in
     let from = c.in_ok-ends.ends.source in
     let to = c.in_ok-ends.ends.destination in
     let checks : MessagePast s (jobs p) c.at.result from to = search rules in

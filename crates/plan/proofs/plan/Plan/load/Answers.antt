@@ -6,19 +6,20 @@ use Rattle.refusals.specs.Told.{refusal_of}
 use Rattle.plan.specs.Held.{jobs, setting}
 use Rattle.plan.specs.Loading.{LaidOut, load, loaded, load_tasks, load_messages, past_tasks, past_messages}
 use Rattle.plan.specs.Told.{load_told}
+use Rattle.plan.proofs.Stands.{clean_of}
 use Rattle.plan.proofs.plan.Plan.load.Goals as goal
 
 -- each step of the load is what the rule does next
 pub returns : goal.returns
 returns g c =
     let p = c.args.self.now in
-    let s = setting g.F.Fabric.meaning p in
+    let s = setting p in
     let js = jobs p in
     let mid = c.load_jobs.new.self in
     let laid : LaidOut c.args.part.now c.in_ok-job.job.tasks.bytes.now c.in_ok-job.job.messages.bytes.now = c.in_ok-job.ensures in
     let ts = laid.some_tasks in
     let ms = laid.some_messages in
-    let same : setting g.F.Fabric.meaning mid ≡ s = ap (λ f. over g.F.Fabric.meaning f.now) c.load_jobs.ensures.fabric in
+    let same : setting mid ≡ s = ap (λ f. over g.F.Fabric.meaning f.now) c.load_jobs.ensures.fabric in
     let taken : Ok c.in_ok-load_jobs.field-0 ≡ (load_tasks s js 0 ts).0 = c.in_ok-load_jobs.ensures.answer ts laid.task_records in
     let held : jobs mid ≡ (load_tasks s js 0 ts).1 = c.load_jobs.ensures.after ts laid.task_records in
     let sent : Ok c.in_ok-load_jobs-2.field-0 ≡ (load_messages s (jobs mid) 0 ms).0 =
@@ -38,4 +39,14 @@ returns g c =
       told = ap (refusal_of load_told) answer;
       after = after ∙ sym (ap (λ r. r.1) whole);
       fabric = c.load_jobs-2.ensures.fabric ∙ c.load_jobs.ensures.fabric;
+      clean = clean_of c.load_jobs-2.new.self;
     }
+
+pub returns-in_err-job-clause-clean : goal.returns-in_err-job-clause-clean
+returns-in_err-job-clause-clean g c = clean_of c.args.self.now
+
+pub returns-in_err-load_jobs-clause-clean : goal.returns-in_err-load_jobs-clause-clean
+returns-in_err-load_jobs-clause-clean g c = clean_of c.load_jobs.new.self
+
+pub returns-in_err-load_jobs-2-clause-clean : goal.returns-in_err-load_jobs-2-clause-clean
+returns-in_err-load_jobs-2-clause-clean g c = clean_of c.load_jobs-2.new.self

@@ -14,9 +14,9 @@ loop-i-init g c = (refl, λ xs e. refl)
 
 pub loop-i-preserved : goal.loop-i-preserved
 loop-i-preserved g c =
-    let s = setting g.F.Fabric.meaning c.args.self.now in
+    let s = setting c.args.self.now in
     let js = jobs c.loop-i.self in
-    let same : setting g.F.Fabric.meaning c.loop-i.self ≡ s = ap (λ f. over g.F.Fabric.meaning f.now) c.loop-i.invariant.0 in
+    let same : setting c.loop-i.self ≡ s = ap (λ f. over g.F.Fabric.meaning f.now) c.loop-i.invariant.0 in
     let lt : c.loop-i.i-counter < length c.args.section.now.bytes.now / g.R.Record.SIZE = omega (arith, c.count-i-end.ensures) in
     elim c.match-get.branch [
       | in-Some+in_ok-map_err w ↦ (
@@ -37,10 +37,10 @@ loop-i-preserved g c =
 
 pub returns-in_err-map_err : goal.returns-in_err-map_err
 returns-in_err-map_err g c =
-    let s = setting g.F.Fabric.meaning c.args.self.now in
+    let s = setting c.args.self.now in
     let js = jobs c.loop-i.self in
     let fault = c.in_err-map_err.field-0.0.1 in
-    let same : setting g.F.Fabric.meaning c.loop-i.self ≡ s = ap (λ f. over g.F.Fabric.meaning f.now) c.loop-i.invariant.0 in
+    let same : setting c.loop-i.self ≡ s = ap (λ f. over g.F.Fabric.meaning f.now) c.loop-i.invariant.0 in
     let lt : c.loop-i.i-counter < length c.args.section.now.bytes.now / g.R.Record.SIZE = omega (arith, c.count-i-end.ensures) in
     let refused : Err fault ≡ c.offer_to.result = search rules in
     let told : c.from_residual.result ≡ Err (c.loop-i.i-counter, fault) = search rules in
@@ -59,7 +59,7 @@ returns-in_err-map_err g c =
 
 pub returns : goal.returns
 returns g c =
-    let s = setting g.F.Fabric.meaning c.args.self.now in
+    let s = setting c.args.self.now in
     let end : (xs : List g.row.R.Denot) → section_records g.R.Record.parsed g.R.Record.SIZE c.args.section.now.bytes.now ≡ Ok xs
     → (Ok tt, jobs c.loop-i.self) ≡ in_turn (g.R.Job.refusal s) g.R.Job.joined (jobs c.args.self.now) 0 xs = λ xs e.
     turn_end (g.R.Job.refusal s) g.R.Job.joined xs c.loop-i.i-counter (jobs c.loop-i.self) _

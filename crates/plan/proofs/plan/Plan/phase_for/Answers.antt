@@ -6,14 +6,14 @@ use Rattle.jobs.specs.Past.{TaskPast}
 use Rattle.jobs.specs.Placings.{clear, first_phase}
 use Rattle.jobs.specs.Takes.{task_takes}
 use Rattle.plan.specs.Held.{jobs, setting}
-use Rattle.plan.proofs.Placing.{phases, task_answers, task_goes}
+use Rattle.promise.proofs.Placing.{phases, task_answers, task_goes}
 use Rattle.plan.proofs.plan.Plan.phase_for.Goals as goal
 
 pub returns : goal.returns
 returns g c =
     let p = c.args.self.now in
     let t = c.args.t.now in
-    let s = setting g.F.Fabric.meaning p in
+    let s = setting p in
     let checks : TaskPast s.network.nodes (jobs p) c.at.result = search rules in
     let past = subst (TaskPast s.network.nodes (jobs p)) c.at.ensures checks in
     let found : c.first_phase.result ≡ first_phase s (jobs p) t =

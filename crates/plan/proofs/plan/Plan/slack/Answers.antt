@@ -6,6 +6,7 @@ use Rattle.jobs.specs.Slacks.{HeldSlack, slack_among, slack_held}
 use Rattle.jobs.specs.declared.fault.DropFault.TheVariants.{Unknown}
 use Rattle.jobs.proofs.Slacks.{held_slack}
 use Rattle.plan.specs.Held.{jobs, setting}
+use Rattle.plan.proofs.Stands.{slack_told_of}
 use Rattle.plan.proofs.plan.Plan.slack.Goals as goal
 
 -- a slack that is told is that of some packet, and no packet's is less
@@ -17,10 +18,16 @@ least s js name (Some v) is = held_slack s js name v is
 pub returns-clause-least : goal.returns-clause-least
 returns-clause-least g c =
     let p = c.args.self.now in
-    let s = setting g.F.Fabric.meaning p in
+    let s = setting p in
     let m = c.in_ok-m.m in
     let found : named message_name c.args.name (jobs p).messages ≡ Some m = search rules in
     let told : c.slack_of.result ≡ slack_among s (jobs p).tasks m =
     c.slack_of.ensures ∙ ap (λ x. slack_among x c.board.result.tasks.now m) c.board.ensures.over ∙ ap (λ ts. slack_among s ts m) c.board.ensures.tasks in
     let is : slack_held s (jobs p) (named message_name c.args.name (jobs p).messages) ≡ c.slack_of.result = ap (slack_held s (jobs p)) found ∙ sym told in
     subst (λ r. IfOk r (HeldSlack s (jobs p) c.args.name)) (sym c.ok_or-2.ensures.value) (least s (jobs p) c.args.name c.slack_of.result is)
+
+pub returns-in_err-m-clause-told_model : goal.returns-in_err-m-clause-told_model
+returns-in_err-m-clause-told_model g c = slack_told_of c.args.self.now c.args.name _ (search rules)
+
+pub returns-clause-told_model : goal.returns-clause-told_model
+returns-clause-told_model g c = slack_told_of c.args.self.now c.args.name _ (search rules)

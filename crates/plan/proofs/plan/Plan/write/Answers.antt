@@ -4,6 +4,7 @@ use Rattle.plan.specs.Held.{jobs}
 use Rattle.plan.specs.Writing.{too_long}
 use Rattle.plan.proofs.Writing.{few_messages, few_tasks, length_tested, messages_told, messages_written}
 use Rattle.plan.proofs.plan.Plan.write.Given.{Over}
+use Rattle.plan.proofs.Stands.{back_of}
 use Rattle.plan.proofs.plan.Plan.write.Goals as goal
 
 -- the sum of the code is the length of the job part
@@ -40,3 +41,15 @@ returns-clause-buffer g c =
     messages_written (jobs p) (few_tasks p 128 (omega arith)) (few_messages p) c.held-tasks.result.now c.held-messages.result.now c.held-tasks.ensures c.held-messages.ensures
     c.args.out.now c.write_section.new.out c.in_ok-middle.middle c.write_section.result c.if-out-tasks.false c.write_section.ensures.answer c.in_ok-middle.ensures.ok_part c.write_section.ensures.bytes
     c.write_section-2.ensures.bytes
+
+pub returns-then-out-tasks-clause-back : goal.returns-then-out-tasks-clause-back
+returns-then-out-tasks-clause-back g c = back_of c.args.self.now
+
+pub returns-in_err-middle-clause-back : goal.returns-in_err-middle-clause-back
+returns-in_err-middle-clause-back g c = back_of c.args.self.now
+
+pub returns-in_err-rest-clause-back : goal.returns-in_err-rest-clause-back
+returns-in_err-rest-clause-back g c = back_of c.args.self.now
+
+pub returns-clause-back : goal.returns-clause-back
+returns-clause-back g c = back_of c.args.self.now

@@ -4,11 +4,12 @@ use Rattle.records.specs.declared.record.Task.{Task}
 use Rattle.records.specs.declared.record.Message.{Message}
 use Rattle.jobs.specs.Jobs.{Jobs, Setting, nothing, task_name, task_named}
 use Rattle.plan.specs.Loading.{loaded}
-use Rattle.promise.specs.Canonical.{RoundTrip, ShortNames}
+use Rattle.plan.specs.Round.{RoundTrip}
+use Rattle.promise.specs.Canonical.{ShortNames}
 use Rattle.promise.specs.Clean.{Clean, In, TaskMade}
 use Rattle.promise.proofs.Lists.{named_in}
-use Rattle.promise.proofs.Reading.{MessageSized, TaskSized, part_back}
-use Rattle.promise.proofs.Turns.{all_taken}
+use Rattle.plan.proofs.Reading.{MessageSized, TaskSized, part_back}
+use Rattle.plan.proofs.AllTaken.{all_taken}
 
 module _ (g : Setting) (js : Jobs) (clean : Clean g js) (short : ShortNames js) where
   -- the limits of a held task are below what its bytes can say

@@ -22,7 +22,7 @@ use Rattle.jobs.specs.Rules.{message_refusal, name_taken, task_timely}
 use Rattle.jobs.specs.Takes.{task_takes}
 use Rattle.jobs.proofs.Checked.{message_checked}
 use Rattle.jobs.proofs.Searches.{first_same}
-use Rattle.plan.proofs.Checks.{passed}
+use Rattle.promise.proofs.Checks.{passed}
 
 clear_mapped : {X E : Type 0} (f : X → E) (o : Option X) → clear (option_map f o) ≡ clear o
 clear_mapped f None = refl

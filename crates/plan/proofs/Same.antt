@@ -2,7 +2,8 @@
 use Rattle.std.proofs.Common.{◌≡◌, ap, ◌∙◌}
 use Rattle.jobs.specs.Jobs.{Jobs, message_name, task_name}
 use Rattle.plan.specs.Writing.{part_bytes}
-use Rattle.promise.specs.Canonical.{Canonical, SameBytes, SameMembers}
+use Rattle.plan.specs.Round.{SameBytes}
+use Rattle.promise.specs.Canonical.{Canonical, SameMembers}
 use Rattle.promise.proofs.Ascending.{ascends_same}
 
 -- the members in the order of their names are the lists

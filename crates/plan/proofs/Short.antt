@@ -38,14 +38,14 @@ ShortMessage m = m.name ≤ 65535
 pub nothing_short : ShortNames nothing
 nothing_short = record { tasks = λ t i. absurd (in_nil t i); messages = λ m i. absurd (in_nil m i) }
 
-task_short : (js : Jobs) (t : Task) → t.name ≤ 65535 → ShortNames js → ShortNames (with_task js t)
+pub task_short : (js : Jobs) (t : Task) → t.name ≤ 65535 → ShortNames js → ShortNames (with_task js t)
 task_short js t fits here =
     record {
       tasks = λ u i. ⊎_elim (λ e. subst ShortTask (sym e) fits) (λ j. here.tasks u j) (in_add task_name t u js.tasks i);
       messages = here.messages;
     }
 
-message_short : (js : Jobs) (m : Message) → m.name ≤ 65535 → ShortNames js → ShortNames (with_message js m)
+pub message_short : (js : Jobs) (m : Message) → m.name ≤ 65535 → ShortNames js → ShortNames (with_message js m)
 message_short js m fits here =
     record {
       tasks = here.tasks;
