@@ -5,6 +5,7 @@ pub mod Meetings
 pub mod Reading
 pub mod Ways
 pub mod Rules
+pub mod Offered
 pub mod Checks
 pub mod Numbers
 pub mod Past

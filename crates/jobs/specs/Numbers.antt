@@ -13,6 +13,8 @@ use Rattle.jobs.specs.declared.fault.PlacingFault.TheVariants as placing
 use Rattle.jobs.specs.declared.fault.DropFault.{DropFault}
 use Rattle.jobs.specs.declared.fault.PlaceFault.{PlaceFault}
 use Rattle.jobs.specs.declared.fault.DropFault.TheVariants as drop_fault
+use Rattle.jobs.specs.declared.job.JobFault.{JobFault}
+use Rattle.jobs.specs.declared.job.JobFault.TheVariants as job_fault
 
 -- a refusal with the first meeting: its instant, the held name and the place
 abbrev pub meets : ℕ → Meeting → Refusal
@@ -33,6 +35,11 @@ message_told message_fault.NoRoute = plain 17
 message_told message_fault.Full = plain 18
 message_told (message_fault.Late v) = record { number = 19; detail = detail.Slack v }
 message_told (message_fault.Meets m) = meets 20 m
+
+-- of a job of either kind
+abbrev pub job_told : JobFault → Refusal
+job_told (job_fault.Task e) = task_told e
+job_told (job_fault.Message e) = message_told e
 
 -- a placing tells what the offer's check tells, or that no value works
 abbrev pub placing_told : {E : Type 0} → (E → Refusal) → PlacingFault E → Refusal

@@ -7,7 +7,7 @@ ghost use Rattle.jobs.specs.Ways.{stay_take};
 ghost use Rattle.std.specs.Prelude.{◌≡◌, map};
 
 use crate::board::Board;
-use crate::job::Job;
+use crate::held::Held;
 use crate::place::Place;
 use crate::stay::Stay;
 use fabric::Fabric;
@@ -34,16 +34,16 @@ fn run_among(place: Place, instant: u64, stays: &[Stay]) -> Option<u64>
 }
 
 // The name of a held job, and its run that has a place at an instant.
-fn held_run<B, J: Job<B>>(board: &B, job: &J, place: Place, instant: u64) -> Option<(u16, u64)>
-    ensures { result ≡ with_name (J.Named.label job.now) (first_run place instant (J.Job.takes board.now job.now)) }
+fn held_run<B, J: Held<B>>(board: &B, job: &J, place: Place, instant: u64) -> Option<(u16, u64)>
+    ensures { result ≡ with_name (J.Named.label job.now) (first_run place instant (J.Held.takes board.now job.now)) }
 {
     let run = run_among(place, instant, job.stays(board).as_slice())?;
     Some((job.name(), run))
 }
 
 // The first of the held jobs that has a place at an instant, by its name, and its run there.
-fn holder<B, J: Job<B>>(board: &B, held: &[J], place: Place, instant: u64) -> Option<(u16, u64)>
-    ensures { result ≡ holder_among place instant (map (job_of J.Named.label (J.Job.takes board.now)) held.now) }
+fn holder<B, J: Held<B>>(board: &B, held: &[J], place: Place, instant: u64) -> Option<(u16, u64)>
+    ensures { result ≡ holder_among place instant (map (job_of J.Named.label (J.Held.takes board.now)) held.now) }
 {
     held.iter()
         .find_map(|job| held_run(board, job, place, instant))

@@ -1,66 +1,31 @@
-// What a held job is: it has a name, and it takes places.
-ghost use Rattle.jobs.specs.Boards.{setting_of};
-ghost use Rattle.jobs.specs.Meetings.{earliest_from, meetings};
-ghost use Rattle.jobs.specs.Takes.{Take, message_takes, task_takes};
-ghost use Rattle.jobs.specs.Ways.{stay_take, taken};
-ghost use Rattle.std.specs.Prelude.{◌≡◌, List, map};
+// A job of either kind, as it is offered, and why it is refused.
+ghost use Rattle.jobs.specs.Numbers.{job_told};
+ghost use Rattle.std.specs.Prelude.{◌≡◌};
 
-use crate::board::Board;
-use crate::meeting::nearest_to;
-use crate::stay::{Stay, Stays};
-use crate::task::stay_of;
-use arrayvec::ArrayVec;
-use fabric::Fabric;
-use records::named::Named;
+use crate::fault::{MessageFault, TaskFault};
 use records::record::{Message, Task};
-use refusals::refusal::Meeting;
+use refusals::refusal::Refusal;
 
-// A kind of held job. What packets take hangs on a board; what a task takes, on nothing.
-pub(crate) trait Job<B>: Named + Copy {
-    // what a job takes
-    ghost takes: { B → Self → List Take };
-
-    fn stays(&self, board: &B) -> Stays
-        ensures { taken result ≡ takes board.now self.now };
-
-    // The earlier of `best` and the meetings of an offered job's stays with this job. It goes over what the job takes and makes no
-    // list of it, since each offer asks this of each held job.
-    fn nearest(&self, board: &B, best: Option<Meeting>, own: &[Stay]) -> Option<Meeting>
-        ensures { result ≡ earliest_from best (meetings (Self.Named.label self.now) (map stay_take own.now) (takes board.now self.now)) };
+#[derive(Clone, Copy, PartialEq, Eq, Debug)]
+pub enum Job {
+    Task(Task),
+    Message(Message),
 }
 
-impl Job<()> for Task {
-    ghost takes = { λ _ t. task_takes t };
-
-    fn stays(&self, _board: &()) -> Stays {
-        Stays::Core([stay_of(self)])
-    }
-
-    fn nearest(&self, _board: &(), best: Option<Meeting>, own: &[Stay]) -> Option<Meeting> {
-        nearest_to(best, own, self.name, &stay_of(self))
-    }
+// Why the offer of a job is refused.
+#[derive(Clone, Copy, PartialEq, Eq, Debug)]
+pub enum JobFault {
+    Task(TaskFault),
+    Message(MessageFault),
 }
 
-impl<'a, F: Fabric> Job<Board<'a, F>> for Message {
-    ghost takes = { λ b m. message_takes (setting_of F.Fabric.meaning b) b.tasks.now m };
+impl From<JobFault> for Refusal {
+    ghost from_gives = { λ e r. r ≡ job_told e };
 
-    fn stays(&self, board: &Board<'a, F>) -> Stays {
-        Stays::Links(
-            board
-                .way_of(self)
-                .map_or_else(ArrayVec::new, |way| way.stays(board.fabric)),
-        )
-    }
-
-    fn nearest(
-        &self,
-        board: &Board<'a, F>,
-        best: Option<Meeting>,
-        own: &[Stay],
-    ) -> Option<Meeting> {
-        let Some(way) = board.way_of(self) else {
-            return best;
-        };
-        way.nearest(board.fabric, best, own, self.name)
+    fn from(fault: JobFault) -> Refusal {
+        match fault {
+            JobFault::Task(fault) => fault.into(),
+            JobFault::Message(fault) => fault.into(),
+        }
     }
 }

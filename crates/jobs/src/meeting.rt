@@ -7,7 +7,7 @@ ghost use Rattle.std.specs.Option.{option_map};
 ghost use Rattle.std.specs.Prelude.{◌≡◌, map};
 
 use crate::board::Board;
-use crate::job::Job;
+use crate::held::Held;
 use crate::stay::Stay;
 use fabric::Fabric;
 use holds::{Hold, first_meeting};
@@ -63,8 +63,8 @@ pub(crate) fn nearest_to(
 }
 
 // The first meeting of an offered job's stays with those of the held jobs.
-pub(crate) fn first_among<B, J: Job<B>>(board: &B, held: &[J], own: &[Stay]) -> Option<Meeting>
-    ensures { result ≡ first_met (map stay_take own.now) (map (job_of J.Named.label (J.Job.takes board.now)) held.now) }
+pub(crate) fn first_among<B, J: Held<B>>(board: &B, held: &[J], own: &[Stay]) -> Option<Meeting>
+    ensures { result ≡ first_met (map stay_take own.now) (map (job_of J.Named.label (J.Held.takes board.now)) held.now) }
 {
     held.iter()
         .fold(None, |best, job| job.nearest(board, best, own))

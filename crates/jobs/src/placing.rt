@@ -14,7 +14,7 @@ ghost use Rattle.jobs.specs.Waits.{Among, StillMeets, StillMet};
 ghost use Rattle.jobs.specs.Ways.{stay_take};
 
 use crate::board::{Board, Ends};
-use crate::job::Job;
+use crate::held::Held;
 use crate::meeting::first_among;
 use crate::message::delays_in_time;
 use crate::open::{OpenMessage, OpenTask};
@@ -51,8 +51,8 @@ fn stay_at(stays: &[Stay], number: u16) -> Option<Stay>
 }
 
 // By how many instants a job must be put off to be clear of the held one that it meets, none where it never is.
-fn wait_past<B, J: Job<B>>(board: &B, held: &[J], own: &[Stay], meeting: &Meeting) -> Option<u32>
-    ensures { StillMet (map stay_take own.now) (map (job_of J.Named.label (J.Job.takes board.now)) held.now) result }
+fn wait_past<B, J: Held<B>>(board: &B, held: &[J], own: &[Stay], meeting: &Meeting) -> Option<u32>
+    ensures { StillMet (map stay_take own.now) (map (job_of J.Named.label (J.Held.takes board.now)) held.now) result }
 {
     let Some(job) = pick(held, meeting.held) else {
         return Some(0);

@@ -9,6 +9,6 @@ pub returns : goal.returns
 returns g c =
     let p = c.args.place in
     let n = c.args.instant in
-    let takes = g.J.Job.takes c.args.board.now in
+    let takes = g.J.Held.takes c.args.board.now in
     found_is (λ y. y.now) _ _ (λ j. with_name (g.J.Named.label j) (first_run p n (takes j))) (λ x y q k. search rules) iter_rest c.iter.result c.args.held.now c.find_map.result c.iter.ensures.runs c.iter.ensures.rest c.find_map.ensures.runs
     ∙ sym (first_some_map (λ j. with_name j.name (first_run p n j.takes)) (job_of g.J.Named.label takes) c.args.held.now)

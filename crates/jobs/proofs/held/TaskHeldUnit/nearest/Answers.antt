@@ -3,7 +3,7 @@ use Rattle.jobs.specs.Meetings.{earliest_from, met}
 use Rattle.jobs.specs.Takes.{Take, task_take}
 use Rattle.jobs.specs.Ways.{stay_take}
 use Rattle.jobs.proofs.Meets.{one_take}
-use Rattle.jobs.proofs.job.TaskJobUnit.nearest.Goals as goal
+use Rattle.jobs.proofs.held.TaskHeldUnit.nearest.Goals as goal
 
 pub returns : goal.returns
 returns c =
