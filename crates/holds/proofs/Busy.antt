@@ -5,7 +5,7 @@ use lib.Arith.{digits_mod}
 use Rattle.holds.specs.Run.{RunAt, run}
 use Rattle.std.proofs.lemmas.Bool.Decides.{Decides-and, Decides-like, Decides-ltb}
 use Rattle.std.proofs.lemmas.Bool.{leb-true, le-leb, cases_order}
-use Rattle.holds.specs.Span.{Span, Proper, HoldsAt, Busy, busy}
+use Rattle.holds.specs.Span.{Span, Proper, RunHolds, Busy, busy}
 
 -- the instant is not before the start, and early in its period
 abbrev pub In : Span → ℕ → Type 0
@@ -45,7 +45,7 @@ busy_begun h n (k, (a, b)) = omega arith
 -- ---- the run that holds an instant
 
 -- two runs that hold one instant are one
-pub run_only : (h : Span) (n k j : ℕ) → Proper h → HoldsAt h k n → HoldsAt h j n → j ≡ k
+pub run_only : (h : Span) (n k j : ℕ) → Proper h → RunHolds h k n → RunHolds h j n → j ≡ k
 run_only h n k j p (a, b) (a', b') = go (cases_order j k)
   where
     go : (j ≡ k) ⊎ ((j < k) ⊎ (k < j)) → j ≡ k

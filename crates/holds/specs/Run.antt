@@ -1,11 +1,11 @@
 -- Which run holds an instant.
 use Rattle.std.specs.Prelude.{◌≡◌, ℕ, ◌-◌, ◌/◌, ◌%◌, cond, ◌&&◌, Some, None, Option, nat_le, nat_lt}
-use Rattle.holds.specs.Span.{Span, HoldsAt, Busy}
+use Rattle.holds.specs.Span.{Span, RunHolds, Busy}
 
 -- run k holds the instant n, and no other does; or none does
 abbrev pub RunAt : Span → ℕ → Option ℕ → Type 0
 RunAt h n None = Busy h n → ⊥
-RunAt h n (Some k) = HoldsAt h k n × ((j : ℕ) → HoldsAt h j n → j ≡ k)
+RunAt h n (Some k) = RunHolds h k n × ((j : ℕ) → RunHolds h j n → j ≡ k)
 
 -- that run, by division
 abbrev pub run : Span → ℕ → Option ℕ

@@ -16,12 +16,12 @@ pub record Proper (h : Span) : Type 0 where
   pub fits : h.width ≤ h.period
 
 -- run k of h, from 0, holds the instant n
-abbrev pub HoldsAt : Span → ℕ → ℕ → Type 0
-HoldsAt h k n = (h.start + k * h.period ≤ n) × (n < h.start + k * h.period + h.width)
+abbrev pub RunHolds : Span → ℕ → ℕ → Type 0
+RunHolds h k n = (h.start + k * h.period ≤ n) × (n < h.start + k * h.period + h.width)
 
 -- some run of h holds the instant n
 abbrev pub Busy : Span → ℕ → Type 0
-Busy h n = (k : ℕ) × HoldsAt h k n
+Busy h n = (k : ℕ) × RunHolds h k n
 
 -- some instant lies in both
 abbrev pub Meet : Span → Span → Type 0

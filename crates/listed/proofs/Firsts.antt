@@ -1,4 +1,4 @@
--- The first fault among records, and what follows where there is none. Assumes nothing.
+-- The first fault among records, and what follows where there is none.
 use Rattle.std.proofs.Common.{◌≡◌, ℕ, zero, suc, ◌+◌, ◌-◌, ◌<◌, Bool, true, false, cond, ◌&&◌, List, [], ◌∷◌, Some, None, Ok, Err, Option, Result, Break, subst, sym, refl, ap, ◌∙◌, add-zero, zero-add, arith}
 use denote.Param.Members.{Mut}
 use Rattle.std.proofs.lemmas.Bool.{and_from, and_parts}
@@ -8,25 +8,25 @@ use Rattle.std.specs.Fn.{Called}
 use Rattle.std.specs.Result.{result_from_control_flow, IsErr, IsErrAnd}
 use Rattle.std.specs.Iterator.{Yields, TryForEachTurn, TryCallsOnEach}
 use Rattle.std.specs.List.{FoldsTo}
-use Rattle.std.specs.Option.{MatchOption}
+use Rattle.std.specs.Option.{MatchOption, option_or}
 use Rattle.listed.specs.declared.faults.SetFault.TheVariants.{Link, Route, Chain, Order}
 use Rattle.records.specs.declared.record.Route.{Route as RouteRecord}
 use Rattle.listed.specs.Records.{link_count, link_at, link_good, route_count, route_at, route_prior, route_shape, route_names, route_leads, route_above, route_good}
 use Rattle.refusals.specs.Told.{checked}
-use Rattle.listed.specs.Setting.{either, first_fault, link_fault, record_fault, route_fault, links_fault, routes_fault}
+use Rattle.listed.specs.Description.{first_fault, link_fault, record_fault, route_fault, links_fault, routes_fault}
 
 module _ {E : Type 0} (f : ℕ → Option E) where
   -- one turn of a walk over n records
-  first_more : (k n : ℕ) → k < n → first_fault f k (n - k) ≡ either (f k) (first_fault f (k + 1) (n - (k + 1)))
+  first_more : (k n : ℕ) → k < n → first_fault f k (n - k) ≡ option_or (f k) (first_fault f (k + 1) (n - (k + 1)))
   first_more k n h = let e : n - k ≡ suc (n - (k + 1)) = omega arith in rw e
 
   -- a record with a fault ends the walk
   first_here : (k n : ℕ) (e : E) → k < n → f k ≡ Some e → first_fault f k (n - k) ≡ Some e
-  first_here k n e h here = first_more k n h ∙ ap (λ o. either o (first_fault f (k + 1) (n - (k + 1)))) here
+  first_here k n e h here = first_more k n h ∙ ap (λ o. option_or o (first_fault f (k + 1) (n - (k + 1)))) here
 
   -- a record without a fault is passed
   first_pass : (k n : ℕ) → k < n → f k ≡ None → first_fault f k (n - k) ≡ first_fault f (k + 1) (n - (k + 1))
-  first_pass k n h here = first_more k n h ∙ ap (λ o. either o (first_fault f (k + 1) (n - (k + 1)))) here
+  first_pass k n h here = first_more k n h ∙ ap (λ o. option_or o (first_fault f (k + 1) (n - (k + 1)))) here
 
   -- a check of record k that refuses ends the walk with its fault
   check_here : (k n : ℕ) (e : E) → k < n → checked (f k) ≡ Err e → Err e ≡ checked (first_fault f k (n - k))
@@ -42,8 +42,8 @@ module _ {E : Type 0} (f : ℕ → Option E) where
     on None is r = first_pass k n h is
     on (Some x) is r = cc
 
-  -- of two without a fault neither has one
-  front_none : (o p : Option E) → either o p ≡ None → (o ≡ None) × (p ≡ None)
+  -- of two without a fault noption_or has one
+  front_none : (o p : Option E) → option_or o p ≡ None → (o ≡ None) × (p ≡ None)
   front_none None p e = (refl, e)
   front_none (Some x) p e = cc
 

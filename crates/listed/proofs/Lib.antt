@@ -4,3 +4,4 @@ pub mod Finds
 pub mod Pairs
 pub mod Halving
 pub mod Networks
+pub mod Parts

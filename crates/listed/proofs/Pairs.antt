@@ -1,17 +1,16 @@
--- The records of a listed fabric ascend, so each pair of nodes has one record at most; and what a file sets is of its records. Assumes nothing.
+-- The records of a listed fabric ascend, so each pair of nodes has one record at most; and what a file gives is of its records.
 use Rattle.std.proofs.Common.{◌≡◌, ℕ, zero, suc, ◌+◌, ◌-◌, ◌/◌, ◌<◌, true, false, cond, ◌&&◌, eqb, ltb, ◌⊎◌, List, [], length, Some, None, Ok, Err, Option, Result, sym, refl, ap, ◌∙◌, subst, zero-add, inl, inr, ⊎_elim, arith}
 use Rattle.std.proofs.lemmas.Bool.{ltb-true, eqb-true, ne_eqb, and_parts, or_cases, cases_Bool, cond-true, cond-false}
 use Rattle.std.specs.Option.{option_map}
 use Rattle.records.specs.declared.record.Link.{Link}
 use Rattle.records.specs.declared.record.Route.{Route}
-use Rattle.records.specs.declared.head.Head.{Head as FileHead}
-use Rattle.listed.specs.declared.faults.SetFault.TheVariants.{Head, Links, Routes}
 use Rattle.listed.specs.Records.{link_at, route_count, route_at, route_prior, link_good, route_links, route_above, route_good, seek, listed_route}
-use Rattle.listed.specs.Setting.{Setting, within, then, unless, listed_head, section_read, links_fault, routes_fault, routes_set, links_set, head_set}
+use Rattle.listed.specs.Description.{Description, links_fault, routes_fault}
 use Rattle.listed.specs.SetRecords.{OfRecords, SetRecords}
 use Rattle.listed.specs.Sound.{GoodParts, good_parts}
 use Rattle.listed.proofs.Finds.{chosen, chosen_here, chosen_other, seek_first, seek_nothing, route_found}
 use Rattle.listed.proofs.Firsts.{links_good, routes_good}
+use Rattle.listed.proofs.Parts.{parts}
 
 -- one pair of nodes is below another: by from, then by to
 abbrev pub Below : ℕ × ℕ → ℕ × ℕ → Type 0
@@ -117,18 +116,8 @@ module _ (n : ℕ) (ls rs : List ℕ)
       (λ (no' : t ≡ false). cond-false t found None no')
       (cases_Bool t)
 
--- an answer after a part without a fault
-then_parts : {T U E : Type 0} (r : Result T E) (f : T → Result U E) (v : U) → then r f ≡ Ok v → (x : T) × (f x ≡ Ok v)
-then_parts (Ok x) f v h = (x, h)
-then_parts (Err e) f v h = cc
-
--- an answer where nothing was found wrong
-pub unless_parts : {T E : Type 0} (o : Option E) (r : Result T E) (v : T) → unless o r ≡ Ok v → (o ≡ None) × (r ≡ Ok v)
-unless_parts None r v h = (refl, h)
-unless_parts (Some e) r v h = cc
-
--- a setting without faults is of its records
-faultless : (s : Setting) → links_fault s.nodes s.links ≡ None → routes_fault s.nodes s.links s.routes ≡ None → OfRecords s
+-- a description without faults is of its records
+faultless : (s : Description) → links_fault s.nodes s.links ≡ None → routes_fault s.nodes s.links s.routes ≡ None → OfRecords s
 faultless s nl nr =
     let routed = routes_good s.nodes s.links s.routes nr in
     record {
@@ -139,25 +128,6 @@ faultless s nl nr =
       others = route_none s.nodes s.links s.routes routed;
     }
 
--- so is one that the checks of the routes let through
-set_last : (h : FileHead) (ls : List ℕ) (rs : List ℕ × List ℕ) (s : Setting) (rest : List ℕ) → links_fault h.x ls ≡ None → routes_set h ls rs ≡ Ok (s, rest) → OfRecords s
-set_last h ls rs s rest nl e =
-    let made : Setting = record { nodes = h.x; delay = h.delay; links = ls; routes = rs.0 } in
-    let (nr, is) = unless_parts (routes_fault h.x ls rs.0) (Ok (made, rs.1)) (s, rest) e in
-    let both : ◌≡◌ {A = Setting × List ℕ} (made, rs.1) (s, rest) = cc in
-    let same : made ≡ s = ap (λ v. v.0) both in
-    subst OfRecords same (faultless made nl nr)
-
--- and one that the checks of the links let through
-set_next : (h : FileHead) (ls : List ℕ × List ℕ) (s : Setting) (rest : List ℕ) → links_set h ls ≡ Ok (s, rest) → OfRecords s
-set_next h ls s rest e =
-    let (nl, after) = unless_parts (links_fault h.x ls.0) (then (within Routes (section_read 16 256 ls.1)) (routes_set h ls.0)) (s, rest) e in
-    let (rs, is) = then_parts (within Routes (section_read 16 256 ls.1)) (routes_set h ls.0) (s, rest) after in
-    set_last h ls.0 rs s rest nl is
-
--- what a file sets is of its records
+-- so is what a file gives
 pub set_records : SetRecords
-set_records file s rest read =
-    let (h, body) = then_parts (within Head (listed_head file)) head_set (s, rest) read in
-    let (ls, is) = then_parts (within Links (section_read 2 128 h.1)) (links_set h.0) (s, rest) body in
-    set_next h.0 ls s rest is
+set_records file d rest read = let p = parts file (d, rest) read in faultless d p.linked p.routed

@@ -1,4 +1,4 @@
--- The limits of a head that was read. Assumes nothing.
+-- The limits of a head that was read.
 use Rattle.std.proofs.Common.{◌≡◌, ℕ, ◌≤◌, Bool, true, false, cond, ◌&&◌, eqb, leb, List, Ok, Err, Result, sym, refl, ap, ◌∙◌}
 use Rattle.std.proofs.lemmas.Bool.{and_parts, leb-true}
 use Rattle.records.specs.declared.head.FabricKind.{FabricKind}
@@ -7,7 +7,8 @@ use Rattle.records.specs.declared.head.Head.{Head as FileHead}
 use Rattle.records.specs.declared.head.HeadFault.{HeadFault}
 use Rattle.records.specs.declared.head.HeadFault.TheVariants.{Limits}
 use Rattle.records.specs.Head.{head_read}
-use Rattle.listed.specs.Setting.{head_fits, head_of_kind, of_listed, listed_head}
+use Rattle.refusals.specs.Steps.{◌>>=◌}
+use Rattle.listed.specs.Description.{head_fits, head_of_kind, listed_head}
 
 -- an answer that stands behind a test that had to come out true
 pub ahead : {T E : Type 0} (t : Bool) (e : E) (o : Result T E) (v : T) → cond t o (Err e) ≡ Ok v → (t ≡ true) × (o ≡ Ok v)
@@ -30,7 +31,7 @@ kind_limits ListedKind p h rest read =
     let same : p.0 ≡ h = ap (λ v. v.0) e in
     fits_limits h (ap head_fits (sym same) ∙ r.0)
 
-read_limits : (o : Result (FileHead × List ℕ) HeadFault) (h : FileHead) (rest : List ℕ) → of_listed o ≡ Ok (h, rest) → (1 ≤ h.x) × (h.x ≤ 64) × (h.delay ≤ 64)
+read_limits : (o : Result (FileHead × List ℕ) HeadFault) (h : FileHead) (rest : List ℕ) → (o >>= (λ p. head_of_kind p.0.kind p)) ≡ Ok (h, rest) → (1 ≤ h.x) × (h.x ≤ 64) × (h.delay ≤ 64)
 read_limits (Err e) h rest read = cc
 read_limits (Ok p) h rest read = kind_limits p.0.kind p h rest read
 

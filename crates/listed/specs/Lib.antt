@@ -1,5 +1,5 @@
 pub mod Records
 pub mod Sound
-pub mod Setting
+pub mod Description
 pub mod SetRecords
 pub mod Told

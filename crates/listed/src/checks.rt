@@ -1,7 +1,7 @@
 // The checks of link and route records: each finds the first record with a fault.
 ghost use Rattle.std.specs.Prelude.{◌≡◌, ◌&&◌, true, false, MatchOption};
 ghost use Rattle.listed.specs.Records.{link_good, link_count, chain_good, once_good, all_below, route_shape, route_names, route_links, route_above, route_prior};
-ghost use Rattle.listed.specs.Setting.{links_fault, link_fault, route_fault, routes_fault};
+ghost use Rattle.listed.specs.Description.{links_fault, link_fault, route_fault, routes_fault};
 ghost use Rattle.refusals.specs.Told.{checked};
 
 use super::SetFault;

@@ -6,7 +6,7 @@ use Rattle.std.specs.Option.{option_map}
 use Rattle.std.specs.List.{insert, position, position_or_len, prefix_len, remove}
 use Rattle.std.proofs.lemmas.List.{length-take-le}
 use Rattle.std.proofs.lemmas.Bool.{cond-true, cond-false, cond_both, lt-ltb, ltb-true, ltb-false, eqb-false, and_parts, and_from}
-use Rattle.records.specs.Named.{named, place, spot, add, without, ascends}
+use Rattle.records.specs.Named.{named, rank, index_of, add, without, ascends}
 
 -- a test for a place, one further on
 further : (b : Bool) (k : ℕ) → option_map suc (cond b (Some k) None) ≡ cond b (Some (suc k)) None
@@ -15,31 +15,31 @@ further false k = refl
 
 module _ {X : Type 0} (f : X → ℕ) (n : ℕ) where
   -- where the first record of a name stands is the first place whose record has it
-  pub spot_is : (xs : List X) → spot f n xs ≡ position (λ x. eqb (f x) n) xs
-  spot_is [] = refl
-  spot_is (x ∷ xs) =
+  pub index_is : (xs : List X) → index_of f n xs ≡ position (λ x. eqb (f x) n) xs
+  index_is [] = refl
+  index_is (x ∷ xs) =
       let at = position_or_len (λ y. eqb (f y) n) xs in
       let e : ltb (suc at) (suc (length xs)) ≡ ltb at (length xs) = simp compare.suc-suc in
-      elim (eqb (f x) n) as (λ b. cond b (Some 0) (option_map suc (spot f n xs)) ≡ cond (ltb (cond (not b) (1 + at) 0) (suc (length xs))) (Some (cond (not b) (1 + at) 0)) None)
-      [ true ↦ sym (cond-true (ltb 0 (suc (length xs))) (Some 0) None (lt-ltb 0 (suc (length xs)) (omega arith))) | false ↦ rw (one-add, e) (ap (option_map suc) (spot_is xs) ∙ further (ltb at (length xs)) at) ]
+      elim (eqb (f x) n) as (λ b. cond b (Some 0) (option_map suc (index_of f n xs)) ≡ cond (ltb (cond (not b) (1 + at) 0) (suc (length xs))) (Some (cond (not b) (1 + at) 0)) None)
+      [ true ↦ sym (cond-true (ltb 0 (suc (length xs))) (Some 0) None (lt-ltb 0 (suc (length xs)) (omega arith))) | false ↦ rw (one-add, e) (ap (option_map suc) (index_is xs) ∙ further (ltb at (length xs)) at) ]
 
   -- the place of a name is past those in front that are below it
-  pub place_is : (xs : List X) → place f n xs ≡ prefix_len (λ x. ltb (f x) n) xs
-  place_is [] = refl
-  place_is (x ∷ xs) =
-      elim (ltb (f x) n) as (λ b. cond b (suc (place f n xs)) 0 ≡ cond b (1 + prefix_len (λ y. ltb (f y) n) xs) 0)
-      [ true ↦ rw one-add (ap suc (place_is xs)) | false ↦ refl ]
+  pub rank_is : (xs : List X) → rank f n xs ≡ prefix_len (λ x. ltb (f x) n) xs
+  rank_is [] = refl
+  rank_is (x ∷ xs) =
+      elim (ltb (f x) n) as (λ b. cond b (suc (rank f n xs)) 0 ≡ cond b (1 + prefix_len (λ y. ltb (f y) n) xs) 0)
+      [ true ↦ rw one-add (ap suc (rank_is xs)) | false ↦ refl ]
 
 -- it is found either way
 pub some_on : (o : Option ℕ) → is_some (option_map suc o) ≡ is_some o
 some_on None = refl
 some_on (Some k) = refl
 
-pub spot_named : {X : Type 0} (f : X → ℕ) (n : ℕ) (xs : List X) → is_some (spot f n xs) ≡ is_some (named f n xs)
-spot_named f n [] = refl
-spot_named f n (x ∷ xs) =
-    elim (eqb (f x) n) as (λ b. is_some (cond b (Some 0) (option_map suc (spot f n xs))) ≡ is_some (cond b (Some x) (named f n xs)))
-    [ true ↦ refl | false ↦ some_on (spot f n xs) ∙ spot_named f n xs ]
+pub index_named : {X : Type 0} (f : X → ℕ) (n : ℕ) (xs : List X) → is_some (index_of f n xs) ≡ is_some (named f n xs)
+index_named f n [] = refl
+index_named f n (x ∷ xs) =
+    elim (eqb (f x) n) as (λ b. is_some (cond b (Some 0) (option_map suc (index_of f n xs))) ≡ is_some (cond b (Some x) (named f n xs)))
+    [ true ↦ refl | false ↦ some_on (index_of f n xs) ∙ index_named f n xs ]
 
 -- a place one further on comes from a place
 step : (o : Option ℕ) (i : ℕ) → option_map suc o ≡ Some i → (k : ℕ) × (o ≡ Some k) × (i ≡ suc k)
@@ -62,42 +62,42 @@ above a b h ne = omega arith
 
 module _ {X : Type 0} (f : X → ℕ) where
   -- a place is at most the length
-  pub place_within : (n : ℕ) (xs : List X) → place f n xs ≤ length xs
-  place_within n [] = omega arith
-  place_within n (x ∷ xs) = let h = place_within n xs in cond_both (ltb (f x) n) (suc (place f n xs)) 0 (λ k. k ≤ suc (length xs)) (λ _. omega arith) (λ _. omega arith)
+  pub rank_within : (n : ℕ) (xs : List X) → rank f n xs ≤ length xs
+  rank_within n [] = omega arith
+  rank_within n (x ∷ xs) = let h = rank_within n xs in cond_both (ltb (f x) n) (suc (rank f n xs)) 0 (λ k. k ≤ suc (length xs)) (λ _. omega arith) (λ _. omega arith)
 
   -- to put a record in at its place is to add it
-  pub add_is : (x : X) (xs : List X) → insert xs (place f (f x) xs) x ≡ add f x xs
+  pub add_is : (x : X) (xs : List X) → insert xs (rank f (f x) xs) x ≡ add f x xs
   add_is x [] = refl
   add_is x (y ∷ ys) =
-      elim (ltb (f y) (f x)) as (λ b. insert (y ∷ ys) (cond b (suc (place f (f x) ys)) 0) x ≡ cond b (y ∷ add f x ys) (x ∷ y ∷ ys))
+      elim (ltb (f y) (f x)) as (λ b. insert (y ∷ ys) (cond b (suc (rank f (f x) ys)) 0) x ≡ cond b (y ∷ add f x ys) (x ∷ y ∷ ys))
       [ true ↦ ap (λ l. y ∷ l) (add_is x ys) | false ↦ refl ]
 
-  -- the record at a spot is the first of the name
-  pub named_at : (n : ℕ) (xs : List X) (i : ℕ) (d : X) → spot f n xs ≡ Some i → named f n xs ≡ Some (get_or xs i d)
+  -- the record at an index is the first of the name
+  pub named_at : (n : ℕ) (xs : List X) (i : ℕ) (d : X) → index_of f n xs ≡ Some i → named f n xs ≡ Some (get_or xs i d)
   named_at n [] i d e = cc
   named_at n (x ∷ xs) i d e =
-      (elim (eqb (f x) n) as (λ b. cond b (Some 0) (option_map suc (spot f n xs)) ≡ Some i → cond b (Some x) (named f n xs) ≡ Some (get_or (x ∷ xs) i d)) [
+      (elim (eqb (f x) n) as (λ b. cond b (Some 0) (option_map suc (index_of f n xs)) ≡ Some i → cond b (Some x) (named f n xs) ≡ Some (get_or (x ∷ xs) i d)) [
         | true ↦ λ z. let j : 0 ≡ i = cc in subst (λ k. Some x ≡ Some (get_or (x ∷ xs) k d)) j refl
-        | false ↦ λ z. let (k, at, is) = step (spot f n xs) i z in
+        | false ↦ λ z. let (k, at, is) = step (index_of f n xs) i z in
             subst (λ m. named f n xs ≡ Some (get_or (x ∷ xs) m d)) (sym is) (named_at n xs k d at)
       ]) e
 
-  -- without a spot there is no record of the name
-  pub named_none : (n : ℕ) (xs : List X) → spot f n xs ≡ None → named f n xs ≡ None
+  -- without an index there is no record of the name
+  pub named_none : (n : ℕ) (xs : List X) → index_of f n xs ≡ None → named f n xs ≡ None
   named_none n [] e = refl
   named_none n (x ∷ xs) e =
-      let p = apart (eqb (f x) n) (spot f n xs) e in
+      let p = apart (eqb (f x) n) (index_of f n xs) e in
       cond-false (eqb (f x) n) (Some x) (named f n xs) p.0 ∙ named_none n xs p.1
 
-  -- a spot is within, and to take it out is to leave its name out
-  pub spot_within : (n : ℕ) (xs : List X) (i : ℕ) → spot f n xs ≡ Some i → (i < length xs) × (remove xs i ≡ without f n xs)
-  spot_within n [] i e = cc
-  spot_within n (x ∷ xs) i e =
-      (elim (eqb (f x) n) as (λ b. cond b (Some 0) (option_map suc (spot f n xs)) ≡ Some i → (i < suc (length xs)) × (remove (x ∷ xs) i ≡ cond b xs (x ∷ without f n xs))) [
+  -- an index is within, and to take it out is to leave its name out
+  pub index_within : (n : ℕ) (xs : List X) (i : ℕ) → index_of f n xs ≡ Some i → (i < length xs) × (remove xs i ≡ without f n xs)
+  index_within n [] i e = cc
+  index_within n (x ∷ xs) i e =
+      (elim (eqb (f x) n) as (λ b. cond b (Some 0) (option_map suc (index_of f n xs)) ≡ Some i → (i < suc (length xs)) × (remove (x ∷ xs) i ≡ cond b xs (x ∷ without f n xs))) [
         | true ↦ λ z. let j : 0 ≡ i = cc in (omega arith, subst (λ k. remove (x ∷ xs) k ≡ xs) j refl)
-        | false ↦ λ z. let (k, at, is) = step (spot f n xs) i z in
-            let h = spot_within n xs k at in
+        | false ↦ λ z. let (k, at, is) = step (index_of f n xs) i z in
+            let h = index_within n xs k at in
             (omega arith, subst (λ m. remove (x ∷ xs) m ≡ x ∷ without f n xs) (sym is) (ap (λ l. x ∷ l) h.1))
       ]) e
 
@@ -131,16 +131,16 @@ module _ {X : Type 0} (f : X → ℕ) where
       (λ _. and_from (ltb m (f x)) (ascends f (f x) (without f n xs)) p.0 (ascends_without (f x) n xs p.1))
 
   -- names ascend with a new one in its place
-  pub ascends_add : (m : ℕ) (x : X) (xs : List X) → m < f x → spot f (f x) xs ≡ None → ascends f m xs ≡ true → ascends f m (add f x xs) ≡ true
+  pub ascends_add : (m : ℕ) (x : X) (xs : List X) → m < f x → index_of f (f x) xs ≡ None → ascends f m xs ≡ true → ascends f m (add f x xs) ≡ true
   ascends_add m x [] h fresh e = and_from (ltb m (f x)) true (lt-ltb m (f x) h) refl
   ascends_add m x (y ∷ ys) h fresh e =
       let p = and_parts (ltb m (f y)) (ascends f (f y) ys) e in
-      let q = apart (eqb (f y) (f x)) (spot f (f x) ys) fresh in
+      let q = apart (eqb (f y) (f x)) (index_of f (f x) ys) fresh in
       cond_both (ltb (f y) (f x)) (y ∷ add f x ys) (x ∷ y ∷ ys) (λ l. ascends f m l ≡ true)
       (λ t. and_from (ltb m (f y)) (ascends f (f y) (add f x ys)) p.0 (ascends_add (f y) x ys (ltb-true (f y) (f x) t) q.1 p.1))
       (λ t. and_from (ltb m (f x)) (ltb (f x) (f y) && ascends f (f y) ys) (lt-ltb m (f x) h)
       (and_from (ltb (f x) (f y)) (ascends f (f y) ys) (lt-ltb (f x) (f y) (above (f y) (f x) (ltb-false (f y) (f x) t) (eqb-false (f y) (f x) q.0))) p.1))
 
   -- a place among the first k is at most k
-  pub place_held : (n k : ℕ) (xs : List X) (p : ℕ) → k ≤ length xs → p ≡ place f n (take k xs) → p ≤ k
-  place_held n k xs p h at = omega (arith, place_within n (take k xs), length-take-le k xs h)
+  pub rank_held : (n k : ℕ) (xs : List X) (p : ℕ) → k ≤ length xs → p ≡ rank f n (take k xs) → p ≤ k
+  rank_held n k xs p h at = omega (arith, rank_within n (take k xs), length-take-le k xs h)

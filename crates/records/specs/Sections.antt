@@ -1,11 +1,11 @@
--- Sections: a 16-bit count and then so many records of one size. Assumes nothing.
+-- Meaning. Sections: a 16-bit count and then so many records of one size.
 --   count_of          the count at the front of a file
 --   fitting           how many whole records a file has after its count
 --   cut_of            the section at the front of a file, and the rest
 --   record_at         the record at a place of a section
 --   section_records   all records of a section, or the place of the first that is none
---   section_bytes     a section as it is written, and section_fits where it can be
-use Rattle.std.specs.Prelude.{ℕ, zero, suc, ◌+◌, ◌-◌, ◌*◌, ◌/◌, Bool, cond, ◌&&◌, List, [], ◌∷◌, length, take, drop, Some, None, Ok, Err, Option, Result, nat_le, nat_lt}
+--   section_bytes     a section as it is written; section_fits where it can be, and what a buffer then holds
+use Rattle.std.specs.Prelude.{ℕ, zero, suc, ◌+◌, ◌-◌, ◌*◌, ◌/◌, Bool, cond, if◌then◌else◌, ◌&&◌, List, [], ◌∷◌, ◌++◌, length, take, drop, Some, None, Ok, Err, Option, Result, nat_le, nat_lt}
 use Rattle.std.specs.List.{flat_map}
 use Rattle.records.specs.Bytes.{be, bytes_of}
 
@@ -59,3 +59,12 @@ section_bytes form xs = bytes_of 2 (length xs) (flat_map form xs)
 -- two bytes can count the records, and the section has at most so many bytes
 abbrev pub section_fits : {R : Type 0} → (R → List ℕ) → List R → ℕ → Bool
 section_fits form xs room = nat_lt (length xs) 65536 && nat_le (length (section_bytes form xs)) room
+
+-- how many bytes of a buffer of so many are written, or none where the section does not fit
+abbrev pub length_written : {R : Type 0} → (R → List ℕ) → List R → ℕ → Option ℕ
+length_written form xs room = if section_fits form xs room then Some (length (section_bytes form xs)) else None
+
+-- what the buffer then holds: the section, and behind it what stood there; or all that stood there
+abbrev pub section_written : {R : Type 0} → (R → List ℕ) → List R → List ℕ → List ℕ
+section_written form xs out =
+    if section_fits form xs (length out) then section_bytes form xs ++ drop (length (section_bytes form xs)) out else out

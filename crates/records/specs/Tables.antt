@@ -1,7 +1,7 @@
--- Tables of records. Assumes nothing.
+-- Meaning. What a table holds.
 use Rattle.std.specs.Prelude.{ℕ, List, take}
 use Rattle.records.specs.declared.tables.Table.{Table}
 
--- the records held: the front of the places
+-- the front of its places
 abbrev pub held : {R : Type 0} {N : ℕ} → Table R N → List R
 held t = take t.count t.places

@@ -1,4 +1,4 @@
-// The byte form of each record kind.
+//! The byte form of each record kind.
 ghost use Rattle.std.specs.Prelude.{◌≡◌, ℕ, ◌<◌, ◌&&◌, List, [], ◌∷◌, length, Some, ◌==◌, nat_lt, slice_index, slice_index_or};
 ghost use Rattle.std.proofs.Common.{sym, ap, rules, arith};
 ghost use Rattle.records.specs.Forms.{link_form, link_of, route_form, route_of, task_form, task_of, message_form, message_of, route_in, task_in, message_in};

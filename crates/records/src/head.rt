@@ -1,8 +1,10 @@
-// The head of a plan file.
+//! The head of a plan file.
 ghost use Rattle.std.specs.Prelude.{◌≡◌, Ok, Err, MatchResult};
 ghost use Rattle.records.specs.Head.{head_read, head_number, kind_read};
 
-// The kind of fabric that a file describes: a mesh by its head alone, a listed fabric by its links and routes.
+use thiserror::Error;
+
+/// The kind of fabric that a file describes: a mesh (1) by its head alone, a listed fabric (2) by its links and routes.
 #[derive(Clone, Copy, PartialEq, Eq, Debug)]
 pub enum FabricKind {
     Mesh,
@@ -23,7 +25,7 @@ impl TryFrom<u8> for FabricKind {
     }
 }
 
-// A head of version 1.
+/// A head of version 1: the kind, two sizes and the hop delay, which the kind gives their meaning and their limits.
 #[derive(Clone, Copy, PartialEq, Eq, Debug)]
 pub struct Head {
     pub kind: FabricKind,
@@ -32,16 +34,22 @@ pub struct Head {
     pub delay: u8,
 }
 
-// What can be wrong with a head: too short, of another version or kind, or outside the limits of its kind.
-#[derive(Clone, Copy, PartialEq, Eq, Debug)]
+/// What can be wrong with a head.
+#[derive(Clone, Copy, PartialEq, Eq, Debug, Error)]
 pub enum HeadFault {
+    /// Fewer bytes than a head has: refusal 1.
+    #[error("fewer bytes than a head has")]
     Short,
+    /// Another version, or a kind that this version has not: refusal 2.
+    #[error("another version or an unknown kind")]
     Version,
+    /// Outside the limits of its kind: refusal 3.
+    #[error("a size or a hop delay outside the limits")]
     Limits,
 }
 
-// A method and no `From` for a refusal, since this crate stands on no other and knows of none.
 impl HeadFault {
+    /// The number of its refusal. The refusals themselves are of a crate that this one does not stand on, so this is no `From`.
     pub fn number(self) -> u8
         ensures { result ≡ head_number self }
     {
@@ -53,7 +61,7 @@ impl HeadFault {
     }
 }
 
-// The head of a file of version 1, and what follows it.
+/// The head of a file of version 1, and what follows it; docs/FILE-FORMAT.md has its six bytes.
 pub fn read_head(file: &[u8]) -> Result<(Head, &[u8]), HeadFault>
     ensures { MatchResult result (λ p. head_read file.now ≡ Ok (p.0, p.1.now)) (λ e. head_read file.now ≡ Err e) }
 {

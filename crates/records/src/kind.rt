@@ -1,18 +1,21 @@
-// The kind of a message.
+//! The kind of a message.
 ghost use Rattle.std.specs.Prelude.{◌≡◌};
 ghost use Rattle.records.specs.Kind.{kind_of};
 
-// Which run has to read the packets of a message.
+use thiserror::Error;
+
+/// Which run has to read the packets of a message.
 #[derive(Clone, Copy, PartialEq, Eq, Debug)]
 pub enum Kind {
-    // the one that is due with the packet's own period
+    /// The one that is due with the packet's own period: the byte 0.
     Precedence,
-    // the one that is due a period later
+    /// The one that is due a period later: the byte 1.
     NextPeriod,
 }
 
-// A byte that stands for no kind.
-#[derive(Clone, Copy, PartialEq, Eq, Debug)]
+/// A byte that stands for no kind.
+#[derive(Clone, Copy, PartialEq, Eq, Debug, Error)]
+#[error("{0} is no kind of message")]
 pub struct UnknownKind(pub u8);
 
 impl TryFrom<u8> for Kind {

@@ -1,13 +1,13 @@
-// Record kinds with a name, and the search for a name: a walk over the records, which need not ascend here.
+//! What has a name.
 ghost use Rattle.std.specs.Prelude.{◌≡◌, ℕ};
-ghost use Rattle.records.specs.Named.{named, spot};
 
-use crate::record::{Message, Record, Task};
+use crate::record::{Message, Task};
 
-// A record kind with a name.
-pub trait Named: Record {
+/// What has a name, as tasks and messages have. It need not be a kind of record: nothing is asked of its bytes.
+pub trait Named {
     ghost label: { Self → ℕ };
 
+    /// The name, by which a table orders and finds it.
     fn name(&self) -> u16
         ensures { result ≡ label self.now };
 }
@@ -26,18 +26,4 @@ impl Named for Message {
     fn name(&self) -> u16 {
         self.name
     }
-}
-
-// Where the first record of a name stands.
-pub fn find<R: Named>(records: &[R], name: u16) -> Option<usize>
-    ensures { result ≡ spot R.Named.label name records.now }
-{
-    records.iter().position(|x| x.name() == name)
-}
-
-// The first record of a name.
-pub fn pick<R: Named + Copy>(records: &[R], name: u16) -> Option<R>
-    ensures { result ≡ named R.Named.label name records.now }
-{
-    records.iter().find(|x| x.name() == name).copied()
 }

@@ -1,10 +1,10 @@
-// What a record kind is, and the four kinds of a plan file.
+//! What a record kind is, and the four kinds of a plan file.
 ghost use Rattle.std.specs.Prelude.{◌≡◌, ℕ, ◌<◌, List, length, Some, Option};
 ghost use Rattle.records.specs.Bytes.{Bytes};
 
-// A kind of record that has a fixed number of bytes.
+/// A kind of record that has a fixed number of bytes.
 pub trait Record: Sized {
-    // The number of bytes of each record.
+    /// The number of bytes of each record.
     const SIZE: usize;
 
     ghost SIZE: { ℕ };
@@ -18,10 +18,12 @@ pub trait Record: Sized {
     // Which values have a byte form.
     ghost sound: { Self → Type 0 };
 
+    /// The record that bytes stand for, or none.
     fn read(bytes: &[u8]) -> Option<Self>
         requires { length bytes.now ≡ SIZE }
         ensures { result ≡ parsed bytes.now };
 
+    /// Writes its bytes.
     fn write(&self, out: &mut [u8])
         requires { length out.old ≡ SIZE }
         ensures { out.new ≡ form self.now };
@@ -34,20 +36,20 @@ pub trait Record: Sized {
     ghost back: { (x : Self) → sound x → parsed (form x) ≡ Some x };
 }
 
-// A kind whose records have no bytes but their form.
+/// A kind whose records have no bytes but their form.
 pub trait Canonical: Record {
     ghost only: { (bs : List ℕ) (x : Self) → length bs ≡ Self.Record.SIZE → Bytes bs → Self.Record.parsed bs ≡ Some x → Self.Record.form x ≡ bs };
 }
 
-// A link of a listed fabric, from a node to a node.
+/// A link of a listed fabric, from a node to a node.
 #[derive(Clone, Copy, PartialEq, Eq, Debug)]
 pub struct Link {
     pub from: u8,
     pub to: u8,
 }
 
-// A route of a listed fabric: the first `length` of `links` are its link numbers. The length stands beside them, since the file's
-// record has twelve bytes of links whatever the length, and all of them come back.
+/// A route of a listed fabric: the first `length` of `links` are its link numbers. The length stands beside them, since the file's
+/// record has twelve bytes of links whatever the length, and all of them come back.
 #[derive(Clone, Copy, PartialEq, Eq, Debug)]
 pub struct Route {
     pub from: u8,
@@ -56,6 +58,7 @@ pub struct Route {
     pub links: [u8; 12],
 }
 
+/// A task: its name, the node whose core it has, and period, phase and width in instants.
 #[derive(Clone, Copy, PartialEq, Eq, Debug)]
 pub struct Task {
     pub name: u16,
@@ -66,7 +69,7 @@ pub struct Task {
 }
 
 impl Task {
-    // Fills a table's free places and is never read, so it is no `Default`.
+    /// Fills a table's free places and is never read, so it is no `Default`.
     pub const EMPTY: Task = Task {
         name: 0,
         core: 0,
@@ -76,19 +79,20 @@ impl Task {
     };
 }
 
+/// A message: its name, the names of the tasks that send and read it, its kind, and delay and width in instants.
 #[derive(Clone, Copy, PartialEq, Eq, Debug)]
 pub struct Message {
     pub name: u16,
     pub source: u16,
     pub destination: u16,
-    // a number and not a `Kind`: an offer takes any, and refuses what names no kind
+    /// A number and not a `Kind`: an offer takes any, and refuses what names no kind.
     pub kind: u8,
     pub delay: u32,
     pub width: u32,
 }
 
 impl Message {
-    // Fills a table's free places and is never read, so it is no `Default`.
+    /// Fills a table's free places and is never read, so it is no `Default`.
     pub const EMPTY: Message = Message {
         name: 0,
         source: 0,

@@ -27,9 +27,9 @@ told_text t =
     ++ detail_text t.refusal.detail
 
 -- the bytes of the line of a verdict: the counts of tasks and messages, or what is refused
-abbrev pub line_of : Result Counts Told → List ℕ
-line_of (Ok counts) = codes "CLEAR " ++ decimal counts.tasks ++ codes " " ++ decimal counts.messages ++ codes "\n"
-line_of (Err told) =
+abbrev pub line_text : Result Counts Told → List ℕ
+line_text (Ok counts) = codes "CLEAR " ++ decimal counts.tasks ++ codes " " ++ decimal counts.messages ++ codes "\n"
+line_text (Err told) =
     codes "REFUSED " ++ decimal told.section ++ codes " " ++ decimal told.«record» ++ codes " " ++ decimal told.refusal.number ++ codes " " ++ word_of told.refusal.number
     ++ detail_text told.refusal.detail ++ codes "\n"
 

@@ -1,6 +1,6 @@
 // The verdict line, written into the caller's buffer.
 ghost use Rattle.std.specs.Prelude.{◌≡◌, ◌+◌, ◌≤◌, length, IfOk, if◌then◌else◌, Ok, Err, nat_lt};
-ghost use Rattle.refusals.specs.Lines.{line_of, detail_text, too_short};
+ghost use Rattle.refusals.specs.Lines.{line_text, detail_text, too_short};
 ghost use Rattle.refusals.specs.Written.{Puts, written};
 
 use crate::pen::Pen;
@@ -13,7 +13,7 @@ pub const LONGEST_LINE: usize = 64;
 impl Pen<'_> {
     fn put_clear(&mut self, counts: Counts)
         requires { self.old.at + 64 ≤ length self.old.out.now }
-        ensures puts { Puts self.old self.new (line_of (Ok counts)) }
+        ensures puts { Puts self.old self.new (line_text (Ok counts)) }
         ensures bound { self.new.at ≤ self.old.at + 64 }
     {
         self.put(b"CLEAR ");
@@ -47,7 +47,7 @@ impl Pen<'_> {
 
     fn put_refused(&mut self, told: Told)
         requires { self.old.at + 64 ≤ length self.old.out.now }
-        ensures puts { Puts self.old self.new (line_of (Err told)) }
+        ensures puts { Puts self.old self.new (line_text (Err told)) }
         ensures bound { self.new.at ≤ self.old.at + 64 }
     {
         self.put(b"REFUSED ");
@@ -66,8 +66,8 @@ impl Pen<'_> {
 // Writes the line of a verdict, the counts of tasks and messages or what is refused, to the start of the buffer and answers its
 // length; bytes beyond it stay.
 pub fn write_line(out: &mut [u8], verdict: Result<Counts, Told>) -> Result<usize, BufferFault>
-    ensures answer { result ≡ (if nat_lt (length out.old) 64 then Err too_short else Ok (length (line_of verdict))) }
-    ensures buffer { out.new ≡ (if nat_lt (length out.old) 64 then out.old else written out.old 0 (line_of verdict)) }
+    ensures answer { result ≡ (if nat_lt (length out.old) 64 then Err too_short else Ok (length (line_text verdict))) }
+    ensures buffer { out.new ≡ (if nat_lt (length out.old) 64 then out.old else written out.old 0 (line_text verdict)) }
     ensures bound { IfOk result (λ n. n ≤ 64) }
 {
     if out.len() < LONGEST_LINE {

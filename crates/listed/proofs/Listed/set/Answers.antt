@@ -1,5 +1,5 @@
 use Rattle.std.proofs.Common.{◌≡◌, None, rules}
-use Rattle.listed.specs.Setting.{links_fault, routes_fault}
+use Rattle.listed.specs.Description.{links_fault, routes_fault}
 use Rattle.listed.proofs.Firsts.{links_good, routes_good}
 use Rattle.listed.proofs.Readings.{head_limits}
 use Rattle.listed.proofs.Listed.set.Goals as goal

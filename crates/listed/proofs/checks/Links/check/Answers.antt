@@ -1,5 +1,5 @@
 use Rattle.std.proofs.Common.{refl, ◌/◌, length, rules}
-use Rattle.listed.specs.Setting.{link_fault}
+use Rattle.listed.specs.Description.{link_fault}
 use Rattle.listed.proofs.Firsts.{first_of_range}
 use Rattle.listed.proofs.checks.Links.check.Goals as goal
 

@@ -1,5 +1,5 @@
 use Rattle.std.proofs.Common.{refl, ◌/◌, length, rules}
-use Rattle.listed.specs.Setting.{route_fault}
+use Rattle.listed.specs.Description.{route_fault}
 use Rattle.listed.proofs.Firsts.{first_of_range}
 use Rattle.listed.proofs.checks.Links.check_routes.Goals as goal
 

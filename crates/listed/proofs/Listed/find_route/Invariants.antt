@@ -1,6 +1,6 @@
 use Rattle.std.proofs.Common.{◌-◌}
 use Rattle.listed.proofs.Halving.{Inside}
-use Rattle.listed.proofs.Listed.find.Given as goal
+use Rattle.listed.proofs.Listed.find_route.Given as goal
 
 -- the pair's record stands nowhere but in the places that are left
 abbrev pub invariant-loop-low : goal.invariant-loop-low

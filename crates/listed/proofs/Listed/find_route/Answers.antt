@@ -1,6 +1,6 @@
 use Rattle.std.proofs.Common.{◌+◌, ◌-◌, ◌/◌, arith, rules}
 use Rattle.listed.proofs.Halving.{inside_after, inside_all, inside_before, inside_here, inside_none, inside_some}
-use Rattle.listed.proofs.Listed.find.Goals as goal
+use Rattle.listed.proofs.Listed.find_route.Goals as goal
 
 pub loop-low-init : goal.loop-low-init
 loop-low-init c = inside_all c.args.self.now.routes.bytes.now c.args.from c.args.to _ _ (omega arith) (omega (arith, c.count-high.ensures))

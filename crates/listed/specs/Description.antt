@@ -1,11 +1,10 @@
--- What setting a listed fabric from a file reads: the head, the links and the routes, or the first fault. Assumes nothing.
---   Setting, network           what a listed fabric is made of, and what it means; alone: how it begins
---   within, then, unless       one part after the other, up to the first fault
---   either, first_fault        the first fault among records
+-- Rule. The description of a listed fabric, and how a file gives it: the head, the links and the routes, or the first fault.
+--   Description, network       what a listed fabric is made of, and what it means; alone: how it begins
 --   listed_head                the head of a listed fabric
 --   section_read               a section of at most so many records
---   link_fault, route_fault    what is wrong with a record
---   setting_read               all of it, in order, by head_set, links_set and routes_set
+--   link_fault, route_fault    what is wrong with a record; first_fault: the first among records
+--   description_read           all of it, in order
+use Rattle.std.specs.Option.{option_map_or, option_or}
 use Rattle.std.specs.Prelude.{ℕ, zero, suc, ◌+◌, Bool, false, cond, ◌&&◌, List, [], Some, None, Ok, Err, Option, Result, ◌==◌, nat_le, nat_lt}
 use Rattle.records.specs.declared.head.FabricKind.{FabricKind}
 use Rattle.records.specs.declared.head.FabricKind.TheVariants.{Mesh as MeshKind, Listed as ListedKind}
@@ -16,6 +15,8 @@ use Rattle.records.specs.declared.record.Route.{Route as RouteRecord}
 use Rattle.records.specs.Head.{head_read}
 use Rattle.records.specs.Sections.{count_of, cut_of}
 use Rattle.fabric.specs.Network.{Network}
+use Rattle.refusals.specs.Steps.{◌>>=◌, within}
+use Rattle.refusals.specs.Told.{checked}
 use Rattle.listed.specs.declared.Listed.{Listed}
 use Rattle.listed.specs.declared.faults.SectionFault.{SectionFault}
 use Rattle.listed.specs.declared.faults.SectionFault.TheVariants.{Short, Many}
@@ -24,48 +25,28 @@ use Rattle.listed.specs.declared.faults.SetFault.TheVariants.{Head, Links, Link,
 use Rattle.listed.specs.Records.{link_count, link_at, link_good, route_count, route_at, route_prior, route_shape, route_names, route_leads, route_above, listed}
 
 -- node count, hop delay, and the bytes of the links and of the routes
-pub record Setting : Type 0 where
+pub record Description : Type 0 where
   pub nodes : ℕ
   pub delay : ℕ
   pub links : List ℕ
   pub routes : List ℕ
 
 -- what a listed fabric is made of
-abbrev pub setting_of : Listed → Setting
-setting_of s = record { nodes = s.nodes; delay = s.delay; links = s.links.bytes.now; routes = s.routes.bytes.now }
+abbrev pub description_of : Listed → Description
+description_of s = record { nodes = s.nodes; delay = s.delay; links = s.links.bytes.now; routes = s.routes.bytes.now }
 
--- the network that a setting means
-abbrev pub network : Setting → Network
+-- the network that a description means
+abbrev pub network : Description → Network
 network s = listed s.nodes s.delay s.links s.routes
 
 -- one node, hop delay 0, no link and no route
-abbrev pub alone : Setting
+abbrev pub alone : Description
 alone = record { nodes = 1; delay = 0; links = []; routes = [] }
-
--- a fault of a part, as a fault of the whole
-abbrev pub within : {T E G : Type 0} → (E → G) → Result T E → Result T G
-within f (Ok x) = Ok x
-within f (Err e) = Err (f e)
-
--- what follows where the part before has no fault
-abbrev pub then : {T U E : Type 0} → Result T E → (T → Result U E) → Result U E
-then (Ok x) f = f x
-then (Err e) f = Err e
-
--- what follows where nothing was found wrong
-abbrev pub unless : {T E : Type 0} → Option E → Result T E → Result T E
-unless None r = r
-unless (Some e) r = Err e
-
--- the first of two faults
-abbrev pub either : {E : Type 0} → Option E → Option E → Option E
-either None o = o
-either (Some e) o = Some e
 
 -- the first fault among m records from record k on
 abbrev pub first_fault : {E : Type 0} → (ℕ → Option E) → ℕ → ℕ → Option E
 first_fault fault k zero = None
-first_fault fault k (suc m) = either (fault k) (first_fault fault (k + 1) m)
+first_fault fault k (suc m) = option_or (fault k) (first_fault fault (k + 1) m)
 
 -- 1 to 64 nodes, Y 1 and a hop delay of at most 64
 abbrev pub head_fits : FileHead → Bool
@@ -76,23 +57,20 @@ abbrev pub head_of_kind : FabricKind → FileHead × List ℕ → Result (FileHe
 head_of_kind MeshKind p = Err Version
 head_of_kind ListedKind p = cond (head_fits p.0) (Ok p) (Err Limits)
 
--- the head that was read, of a listed fabric and within the limits
-abbrev pub of_listed : Result (FileHead × List ℕ) HeadFault → Result (FileHead × List ℕ) HeadFault
-of_listed (Err e) = Err e
-of_listed (Ok p) = head_of_kind p.0.kind p
-
 -- the head of a listed fabric and the rest of the file, or the first fault
 abbrev pub listed_head : List ℕ → Result (FileHead × List ℕ) HeadFault
-listed_head file = of_listed (head_read file)
+listed_head file = do
+  head ← head_read file
+  head_of_kind head.0.kind head
 
 -- a count is over a limit
-abbrev pub over : ℕ → Option ℕ → Bool
-over limit None = false
-over limit (Some n) = nat_lt limit n
+abbrev pub too_many : ℕ → Option ℕ → Bool
+too_many limit count = option_map_or (λ n. nat_lt limit n) count false
 
--- the bytes of a section of at most so many records and the rest of the file: a count over the limit is a fault before records that are cut off
+-- the bytes of a section of at most so many records and the rest of the file: a count over the limit is a fault before records
+-- that are cut off
 abbrev pub section_read : ℕ → ℕ → List ℕ → Result (List ℕ × List ℕ) SectionFault
-section_read size limit file = cond (over limit (count_of file)) (Err Many) (within Short (cut_of size file))
+section_read size limit file = cond (too_many limit (count_of file)) (Err Many) (within Short (cut_of size file))
 
 -- what is wrong with link record l
 abbrev pub link_fault : ℕ → List ℕ → ℕ → Option SetFault
@@ -118,19 +96,12 @@ links_fault n ls = first_fault (link_fault n ls) 0 (link_count ls)
 abbrev pub routes_fault : ℕ → List ℕ → List ℕ → Option SetFault
 routes_fault n ls rs = first_fault (route_fault n ls rs) 0 (route_count rs)
 
--- what is set where the routes have no fault, and the bytes that follow them
-abbrev pub routes_set : FileHead → List ℕ → List ℕ × List ℕ → Result (Setting × List ℕ) SetFault
-routes_set h ls rs =
-    unless (routes_fault h.x ls rs.0) (Ok (record { nodes = h.x; delay = h.delay; links = ls; routes = rs.0 }, rs.1))
-
--- the routes are read where the links have no fault
-abbrev pub links_set : FileHead → List ℕ × List ℕ → Result (Setting × List ℕ) SetFault
-links_set h ls = unless (links_fault h.x ls.0) (then (within Routes (section_read 16 256 ls.1)) (routes_set h ls.0))
-
--- the links are read after the head
-abbrev pub head_set : FileHead × List ℕ → Result (Setting × List ℕ) SetFault
-head_set h = then (within Links (section_read 2 128 h.1)) (links_set h.0)
-
--- what a file sets, and the bytes that follow its routes, or the first fault
-abbrev pub setting_read : List ℕ → Result (Setting × List ℕ) SetFault
-setting_read file = then (within Head (listed_head file)) head_set
+-- the description that a file gives, and the bytes that follow its routes, or the first fault
+abbrev pub description_read : List ℕ → Result (Description × List ℕ) SetFault
+description_read file = do
+  head ← within Head (listed_head file)
+  links ← within Links (section_read 2 128 head.1)
+  sound ← checked (links_fault head.0.x links.0)
+  routes ← within Routes (section_read 16 256 links.1)
+  lawful ← checked (routes_fault head.0.x links.0 routes.0)
+  Ok (record { nodes = head.0.x; delay = head.0.delay; links = links.0; routes = routes.0 }, routes.1)
