@@ -1,4 +1,4 @@
--- What the laws of a fabric give of its answers, for code over any fabric. Assumes nothing.
+-- What the laws of a fabric give of its answers, for code over any fabric.
 -- An answer comes as the questions' contracts give it: `Some k ≡ route_length o`, `Some x ≡ route_place o i`, `None ≡ ..`.
 use Rattle.std.proofs.Common.{◌≡◌, ℕ, zero, suc, ◌+◌, ◌<◌, ◌≤◌, List, [], ◌∷◌, length, get_or, drop, Some, None, Option, refl, ap, ◌∙◌, ⊎_elim, arith}
 use Rattle.std.specs.List.{slice_get}

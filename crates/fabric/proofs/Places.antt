@@ -1,4 +1,4 @@
--- What stands at a place of a mesh's route. Assumes nothing.
+-- What stands at a place of a mesh's route.
 use Rattle.std.proofs.Common.{◌≡◌, ℕ, ◌+◌, ◌-◌, ◌*◌, ◌/◌, ◌%◌, ◌<◌, ◌≤◌, List, ◌++◌, map, length, Some, None, sym, ap, ◌∙◌, ⊎_elim, arith, length-append}
 use Rattle.std.proofs.lemmas.Bool.{lt-ltb, cases_lt, and_from, cond-true}
 use Rattle.std.specs.List.{range_with_len, slice_get}

@@ -1,4 +1,4 @@
--- The routes of a mesh go along x first, and are as long as their nodes are apart. Assumes nothing.
+-- The routes of a mesh go along x first, and are as long as their nodes are apart.
 use Rattle.std.proofs.Common.{◌≡◌, ℕ, ◌+◌, ◌-◌, ◌/◌, ◌%◌, ◌<◌, ◌≤◌, true, ◌++◌, length, get_or, sym, refl, ap, subst, ⊎_elim, arith, length-append}
 use Rattle.std.proofs.lemmas.Bool.{cases_lt}
 use Rattle.std.proofs.lemmas.Bool.Decides.{nat_tests}

@@ -1,4 +1,4 @@
--- What is promised of the routes of every mesh. Assumes nothing.
+-- What is promised of the routes of every mesh.
 -- apart, AlongX: words. Straight: what holds of one route. MeshRoutes: every two nodes of every mesh have such a route.
 use Rattle.std.specs.Prelude.{◌≡◌, ℕ, ◌+◌, ◌-◌, ◌*◌, ◌/◌, ◌%◌, ◌<◌, ◌≤◌, true, List, length, Some, slice_index}
 use Rattle.fabric.specs.Grid.{grid, sizes_fit}

@@ -1,5 +1,6 @@
--- What a fabric means, and the laws that every fabric keeps. Assumes nothing.
+-- Meaning. What a fabric is, and the laws that every fabric keeps.
 -- Network: the meaning. Chain, Once: what a route is. route_length, route_place: a route as it is asked for. Lawful: the laws and limits.
+-- IsFabric: a network that keeps them within some longest route.
 use Rattle.std.specs.Prelude.{◌≡◌, ℕ, ◌<◌, ◌≤◌, List, [], ◌∷◌, length, Some, None, Option, ◌≢◌, slice_index}
 use Rattle.std.specs.List.{slice_get}
 
@@ -50,3 +51,13 @@ pub record Lawful (longest : ℕ) (n : Network) : Type 0 where
   pub short : (a b : ℕ) (r : List ℕ) → n.route a b ≡ Some r → length r ≤ longest
   -- the route from a node to itself is empty
   pub stay : (a : ℕ) → a < n.nodes → n.route a a ≡ Some []
+
+-- the network of a fabric of some kind: lawful within a longest route, of at most 64 links
+pub record IsFabric (n : Network) : Type 0 where
+  pub longest : ℕ
+  pub bounded : longest ≤ 64
+  pub lawful : Lawful longest n
+
+-- which a fabric's own `bounded` and `lawful` give
+pub is_fabric : {longest : ℕ} {n : Network} → longest ≤ 64 → Lawful longest n → IsFabric n
+is_fabric {longest} bounded lawful = record { longest = longest; bounded = bounded; lawful = lawful }

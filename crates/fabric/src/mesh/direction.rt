@@ -1,4 +1,4 @@
-// The four ways out of a node, in the order in which its links are numbered.
+//! The four ways out of a node, in the order in which its links are numbered.
 ghost use Rattle.std.specs.Prelude.{◌≡◌, ◌+◌, ◌*◌, ◌%◌, ◌<◌};
 ghost use Rattle.fabric.specs.Meshes.{direction_number};
 

@@ -1,4 +1,4 @@
-// A node of a mesh by its column and row.
+//! A node of a mesh by its column and row.
 ghost use Rattle.std.specs.Prelude.{◌<◌};
 
 #[derive(Clone, Copy)]
