@@ -1,4 +1,4 @@
-// The greatest common divisor, and differences modulo it.
+//! The greatest common divisor, and differences modulo it.
 ghost use Rattle.std.specs.Prelude.{◌≡◌, ◌<◌, ◌≤◌};
 ghost use Rattle.holds.specs.Gcd.{gcd};
 ghost use Rattle.holds.specs.Limits.{latest};

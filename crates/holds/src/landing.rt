@@ -1,12 +1,25 @@
-// The first landing of a walk, by turns as in Euclid's algorithm.
+//! The first landing of a walk around a circle by equal steps, by turns as in Euclid's algorithm.
 ghost use Rattle.std.specs.Prelude.{◌≡◌, ℕ, ◌*◌, ◌<◌, ◌≤◌};
-ghost use Rattle.holds.specs.Landing.{CountsFor};
 ghost use Rattle.holds.specs.Limits.{longest};
-ghost use Rattle.holds.specs.Walk.{Lands, Least};
+ghost use Rattle.holds.specs.Walk.{Lands, Least, Room};
 
-use super::circle::Walk;
+// From the place `at` by `step` around `size` places; it lands on one of the first `wide`. Landing number t after k rounds is
+// landing number each * t + past * k + count of the first walk.
+#[derive(Clone, Copy)]
+pub(crate) struct Walk {
+    pub at: u32,
+    pub step: u32,
+    pub size: u32,
+    pub wide: u32,
+    pub each: u32,
+    pub past: u32,
+    pub count: u32,
+    ghost room: { Room longest at step size each past count },
+}
 
 impl Walk {
+    ghost use Rattle.holds.specs.Landing.{CountsFor};
+
     // The first walk.
     #[tactic(auto, using(crate::proofs::Walk::carried_first, crate::proofs::Walk::room_first))]
     fn new(at: u32, step: u32, size: u32, wide: u32) -> Walk
@@ -51,7 +64,6 @@ pub(crate) fn first_landing(r: u32, a: u32, m: u32, w: u32) -> Option<u32>
     ensures { Least (Lands r a m w) result }
 {
     let mut walk = Walk::new(r, a, m, w);
-    // a `while`, since each walk comes of the walk before and nothing counts the turns: no iterator is plainer
     while walk.at >= walk.wide {
         if walk.step == 0 {
             return None;

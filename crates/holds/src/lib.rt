@@ -1,19 +1,16 @@
-// Periodic holds of one place over instants of unbounded time: whether two meet and where first, which run holds an instant,
-// and the least slack of packets that a periodic reader reads.
+//! Periodic holds of one place over instants of unbounded time: whether two meet and where first, which run holds an instant,
+//! and the least slack of packets that a periodic reader reads.
 #![tactic(auto)]
 
 ghost use Rattle.holds.specs.First.{MeetingIsFirst, MeetingBound};
 ghost use Rattle.holds.specs.Gcd.{GcdIsGreatest, QuotientWhole};
 ghost use Rattle.holds.specs.Slack.{AlwaysRead, LeastWhole, SlackIsLeast};
 ghost use Rattle.holds.specs.Span.{GapIsDifference, PairTest};
-ghost use Rattle.std.specs.Prelude.{◌≡◌};
 
-mod circle;
 mod deliveries;
 mod divisor;
 mod hold;
 mod landing;
-mod make;
 mod meeting;
 mod run;
 mod slack;
@@ -26,9 +23,14 @@ pub use run::run_at;
 pub use slack::least_slack;
 pub use wait::least_wait;
 
-// The formulas say what the instants say.
-pub fn formulas_stand() -> u8
-    ensures answer { result ≡ 0 }
+// The latest first start, arrival and due instant.
+const LATEST: u64 = 1 << 62;
+
+// The longest period.
+const LONGEST: u32 = 255 * 65_536;
+
+/// The formulas say what the instants say: each clause is a theorem of specs/, over all of time.
+pub fn formulas_stand()
     ensures divisor { GcdIsGreatest }
     ensures quotient { QuotientWhole }
     ensures pair { PairTest }
@@ -39,7 +41,6 @@ pub fn formulas_stand() -> u8
     ensures slack { SlackIsLeast }
     ensures whole { LeastWhole }
 {
-    0
 }
 
 #[cfg(test)]

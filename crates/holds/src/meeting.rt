@@ -1,4 +1,4 @@
-// Whether two holds of one place meet, and where first.
+//! Whether two holds of one place meet, and where first.
 ghost use Rattle.std.specs.Prelude.{◌≡◌, ◌≤◌, ◌^◌, Decides};
 ghost use Rattle.holds.specs.First.{IsFirst, first};
 ghost use Rattle.holds.specs.Held.{span};
@@ -9,7 +9,7 @@ use super::divisor::{gap, gcd};
 use super::hold::Hold;
 use super::landing::first_landing;
 
-// Whether no instant lies in both.
+/// Whether no instant lies in both.
 #[tactic(auto, using(crate::proofs::Residue::gap_in_gcd, crate::proofs::Pair::decided_then, crate::proofs::Pair::decided_else))]
 pub fn clear(one: Hold, other: Hold) -> bool
     ensures formula { Decides result (Clear (span one) (span other)) }
@@ -20,10 +20,10 @@ pub fn clear(one: Hold, other: Hold) -> bool
     (one.width as u64) <= d && d + other.width as u64 <= g as u64
 }
 
-// The first instant that lies in both.
-//
-// Run k of `one` meets a run of `other` exactly when its last instant, counted from the start of `other`, falls on one of the
-// first width + width - 1 places of the period of `other`. So the run is the first landing of a walk around that period.
+/// The first instant that lies in both.
+///
+/// Run k of `one` meets a run of `other` exactly when its last instant, counted from the start of `other`, falls on one of the
+/// first width + width - 1 places of the period of `other`. So the run is the first landing of a walk around that period.
 pub fn first_meeting(one: Hold, other: Hold) -> Option<u64>
     ensures formula { result ≡ first (span one) (span other) }
     ensures instants { IsFirst (span one) (span other) result }

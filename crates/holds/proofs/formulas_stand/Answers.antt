@@ -1,4 +1,4 @@
-use Rattle.std.proofs.Common.{refl, sym}
+use Rattle.std.proofs.Common.{sym}
 use Rattle.holds.proofs.Euclid.{gcd_is_greatest}
 use Rattle.holds.proofs.First.{first_is, meeting_bound}
 use Rattle.holds.proofs.Pair.{pair_test}
@@ -9,7 +9,6 @@ use Rattle.holds.proofs.formulas_stand.Goals as goal
 pub returns : goal.returns
 returns c =
     record {
-      answer = refl;
       divisor = gcd_is_greatest;
       quotient = λ d n divides. sym (whole d n divides);
       pair = pair_test;

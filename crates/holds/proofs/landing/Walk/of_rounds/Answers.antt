@@ -2,7 +2,7 @@ use Rattle.std.proofs.Common.{◌+◌, ◌-◌, arith}
 use Rattle.holds.specs.Limits.{longest}
 use Rattle.holds.proofs.Turns.{halves}
 use Rattle.holds.proofs.Walk.{carried_more, room_more}
-use Rattle.holds.proofs.circle.Walk.of_rounds.Goals as goal
+use Rattle.holds.proofs.landing.Walk.of_rounds.Goals as goal
 
 pub invariant_of-result : goal.invariant_of-result
 invariant_of-result c =
