@@ -1,4 +1,4 @@
--- The verdict on the bytes of a plan file: how many tasks and messages are held, or the first fault. Assumes nothing.
+-- Rule. The verdict on the bytes of a plan file: how many tasks and messages are held, or the first fault.
 use Rattle.std.specs.Prelude.{ℕ, cond, List, length, Ok, Err, Result, nat_lt}
 use Rattle.records.specs.Head.{head_read}
 use Rattle.records.specs.declared.head.FabricKind.{FabricKind}
@@ -8,7 +8,8 @@ use Rattle.records.specs.declared.head.HeadFault.{HeadFault}
 use Rattle.records.specs.declared.head.HeadFault.TheVariants.{Limits}
 use Rattle.fabric.specs.Grid.{grid_made}
 use Rattle.fabric.specs.Network.{Network}
-use Rattle.listed.specs.Setting.{network, section_read, setting_read, then, within}
+use Rattle.refusals.specs.Steps.{◌>>=◌, within}
+use Rattle.listed.specs.Description.{description_read, network, section_read}
 use Rattle.listed.specs.declared.faults.SetFault.{SetFault}
 use Rattle.listed.specs.declared.faults.SetFault.TheVariants.{Head, Links, Routes}
 use Rattle.jobs.specs.Jobs.{Setting, nothing}
@@ -21,19 +22,23 @@ use Rattle.verdict.specs.declared.fault.FileFault.TheVariants.{Extra, Fabric, Lo
 
 -- a mesh file has no link and no route record; what follows is its job part
 abbrev pub mesh_sections : List ℕ → Result (List ℕ) SetFault
-mesh_sections bytes =
-    then (within Links (section_read 2 0 bytes)) (λ ls.
-    then (within Routes (section_read 16 0 ls.1)) (λ rs.
-    Ok rs.1))
+mesh_sections bytes = do
+  links ← within Links (section_read 2 0 bytes)
+  routes ← within Routes (section_read 16 0 links.1)
+  Ok routes.1
 
 -- past the head of a mesh file, whose network was made or was outside the limits: the mesh, and its job part
 abbrev pub mesh_part : Result Network ℕ → List ℕ → Result (Network × List ℕ) SetFault
 mesh_part (Err n) rest = Err (Head Limits)
-mesh_part (Ok net) rest = then (mesh_sections rest) (λ part. Ok (net, part))
+mesh_part (Ok net) rest = do
+  part ← mesh_sections rest
+  Ok (net, part)
 
 -- a listed fabric, and what follows its routes
 abbrev pub listed_part : List ℕ → Result (Network × List ℕ) SetFault
-listed_part file = then (setting_read file) (λ p. Ok (network p.0, p.1))
+listed_part file = do
+  fabric ← description_read file
+  Ok (network fabric.0, fabric.1)
 
 abbrev pub kind_part : FabricKind → List ℕ → FileHead × List ℕ → Result (Network × List ℕ) SetFault
 kind_part MeshKind file p = mesh_part (grid_made p.0.x p.0.y p.0.delay) p.1
@@ -59,7 +64,9 @@ judged_on net part = within Load (load (on net) nothing part).0
 
 -- the job part on its network, or what is wrong before it
 abbrev pub on_part : Result (Network × List ℕ) SetFault → Result Counts FileFault
-on_part read = then (within Fabric read) (λ p. judged_on p.0 p.1)
+on_part read = do
+  part ← within Fabric read
+  judged_on part.0 part.1
 
 abbrev pub mesh_verdict : FileHead → List ℕ → Result Counts FileFault
 mesh_verdict h rest = on_part (mesh_part (grid_made h.x h.y h.delay) rest)
