@@ -4,7 +4,7 @@ use Rattle.std.specs.List.{slice_get}
 use Rattle.std.proofs.lemmas.Bool.{cond-true}
 use Rattle.std.proofs.lemmas.Option.{same_Some}
 use Rattle.holds.specs.Run.{RunAt, run}
-use Rattle.holds.specs.Span.{HoldsAt, Proper, Span}
+use Rattle.holds.specs.Span.{RunHolds, Proper, Span}
 use Rattle.holds.proofs.Busy.{run_is}
 use Rattle.holds.proofs.Limits.{spanned_proper}
 use Rattle.records.specs.declared.record.Task.{Task}
@@ -17,10 +17,10 @@ use Rattle.jobs.specs.Takes.{Take, along, between, on_route, same_place}
 
 -- ---- the run of one hold
 
-run_sound : (h : Span) (n k : ℕ) → Proper h → run h n ≡ Some k → HoldsAt h k n
+run_sound : (h : Span) (n k : ℕ) → Proper h → run h n ≡ Some k → RunHolds h k n
 run_sound h n k p e = (run_is h n (Some k) p (sym e)).0
 
-run_complete : (h : Span) (n k : ℕ) → Proper h → HoldsAt h k n → run h n ≡ Some k
+run_complete : (h : Span) (n k : ℕ) → Proper h → RunHolds h k n → run h n ≡ Some k
 run_complete h n k p holds = go (run h n) (run_is h n (run h n) p refl)
   where
     go : (o : Option ℕ) → RunAt h n o → o ≡ Some k
@@ -36,7 +36,7 @@ Fit t = (h : Span) → t.hold ≡ Some h → Proper h
 abbrev pub AllFit : List Take → Type 0
 AllFit ts = (i : ℕ) (t : Take) → slice_get ts i ≡ Some t → Fit t
 
-of_sound : (o : Option Span) (n k : ℕ) → ((h : Span) → o ≡ Some h → Proper h) → run_of n o ≡ Some k → (h : Span) × (o ≡ Some h) × HoldsAt h k n
+of_sound : (o : Option Span) (n k : ℕ) → ((h : Span) → o ≡ Some h → Proper h) → run_of n o ≡ Some k → (h : Span) × (o ≡ Some h) × RunHolds h k n
 of_sound None n k fit e = cc
 of_sound (Some h) n k fit e = (h, refl, run_sound h n k (fit h refl) e)
 

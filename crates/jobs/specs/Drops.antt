@@ -1,6 +1,6 @@
 -- Droppings: the answer, and what is held after. Assumes nothing.
 use Rattle.std.specs.Prelude.{ℕ, Bool, cond, ◌||◌, List, is_some, Ok, Err, Result, ◌==◌}
-use Rattle.records.specs.Named.{spot}
+use Rattle.records.specs.Named.{index_of}
 use Rattle.records.specs.declared.record.Message.{Message}
 use Rattle.jobs.specs.declared.fault.DropFault.{DropFault}
 use Rattle.jobs.specs.declared.fault.DropFault.TheVariants.{Unknown, InUse}
@@ -17,9 +17,9 @@ in_use n ms = list_any (names_task n) ms
 
 abbrev pub drop_task : Jobs → ℕ → Result (Unit {0}) DropFault × Jobs
 drop_task js n =
-    cond (is_some (spot task_name n js.tasks))
+    cond (is_some (index_of task_name n js.tasks))
     (cond (in_use n js.messages) (Err InUse, js) (Ok tt, without_task js n))
     (Err Unknown, js)
 
 abbrev pub drop_message : Jobs → ℕ → Result (Unit {0}) DropFault × Jobs
-drop_message js n = cond (is_some (spot message_name n js.messages)) (Ok tt, without_message js n) (Err Unknown, js)
+drop_message js n = cond (is_some (index_of message_name n js.messages)) (Ok tt, without_message js n) (Err Unknown, js)

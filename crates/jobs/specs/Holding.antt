@@ -2,7 +2,7 @@
 use Rattle.std.specs.Prelude.{◌≡◌, ℕ, true, cond, List, [], ◌∷◌, map, Some, None, Ok, Err, Option, Result, nat_le}
 use Rattle.std.specs.List.{slice_get}
 use Rattle.holds.specs.Run.{run}
-use Rattle.holds.specs.Span.{HoldsAt, Span}
+use Rattle.holds.specs.Span.{RunHolds, Span}
 use Rattle.jobs.specs.declared.fault.PlaceFault.{PlaceFault}
 use Rattle.jobs.specs.Jobs.{Setting, Jobs}
 use Rattle.jobs.specs.Meetings.{HeldJob, held_message, held_task}
@@ -55,7 +55,7 @@ link_holder g js l n = cond (nat_le g.network.links l) (Err no_place) (Ok (holde
 
 -- run k of a take has the place p at the instant n
 abbrev pub Has : Place → ℕ → ℕ → Take → Type 0
-Has p n k t = (same_place p t.place ≡ true) × ((h : Span) × (t.hold ≡ Some h) × HoldsAt h k n)
+Has p n k t = (same_place p t.place ≡ true) × ((h : Span) × (t.hold ≡ Some h) × RunHolds h k n)
 
 -- run k of some job of this name has it
 pub record Holding (js : List HeldJob) (p : Place) (n name k : ℕ) : Type 0 where

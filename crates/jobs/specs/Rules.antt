@@ -1,7 +1,7 @@
 -- The checks of an offer, in their order: the first whose condition holds refuses. Assumes nothing.
 use Rattle.std.specs.Prelude.{ℕ, ◌+◌, Bool, cond, not, ◌&&◌, ◌||◌, List, map, length, ℤ, is_some, Some, None, Ok, Err, Option, Result, ◌==◌, nat_le, nat_lt}
 use Rattle.std.specs.Option.{option_map}
-use Rattle.records.specs.Named.{spot}
+use Rattle.records.specs.Named.{index_of}
 use Rattle.records.specs.declared.record.Task.{Task}
 use Rattle.records.specs.declared.record.Message.{Message}
 use Rattle.jobs.specs.declared.fault.TaskFault.{TaskFault}
@@ -17,7 +17,7 @@ use Rattle.jobs.specs.Reading.{lateness, message_slack}
 
 -- a name is taken where it is 0 or held
 abbrev pub name_taken : {X : Type 0} → (X → ℕ) → ℕ → List X → Bool
-name_taken label n xs = n == 0 || is_some (spot label n xs)
+name_taken label n xs = n == 0 || is_some (index_of label n xs)
 
 -- a period from 1 to 65,536, a width from 1 to the period, and phase and width together at most the period
 abbrev pub task_timely : Task → Bool

@@ -2,7 +2,7 @@
 ghost use Rattle.jobs.specs.Boards.{ends_in};
 ghost use Rattle.std.specs.Prelude.{◌≡◌};
 
-use records::named::pick;
+use records::search::named;
 use records::record::{Message, Task};
 
 #[derive(Drop)]
@@ -24,8 +24,8 @@ impl<'a, F> Board<'a, F> {
         ensures { result ≡ ends_in self.now.tasks.now m.now }
     {
         Some(Ends {
-            source: pick(self.tasks, m.source)?,
-            destination: pick(self.tasks, m.destination)?,
+            source: named(self.tasks, m.source)?,
+            destination: named(self.tasks, m.destination)?,
         })
     }
 }

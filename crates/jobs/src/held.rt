@@ -42,7 +42,7 @@ impl Held<()> for Task {
 }
 
 impl<'a, F: Fabric> Held<Board<'a, F>> for Message {
-    ghost takes = { λ b m. message_takes (setting_of F.Fabric.meaning b) b.tasks.now m };
+    ghost takes = { λ b m. message_takes (setting_of F.meaning b) b.tasks.now m };
 
     fn stays(&self, board: &Board<'a, F>) -> Stays {
         Stays::Links(

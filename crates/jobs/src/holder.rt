@@ -60,7 +60,7 @@ pub fn core_holder(held: &[Task], number: u16, instant: u64) -> Option<(u16, u64
 impl<'a, F: Fabric> Board<'a, F> {
     // The held message that has a link at an instant, by its name, and its packet there.
     pub fn link_holder(&self, held: &[Message], number: u16, instant: u64) -> Option<(u16, u64)>
-        ensures { result ≡ holder_among (link number) instant (map (held_message (setting_of F.Fabric.meaning self.now) self.now.tasks.now) held.now) }
+        ensures { result ≡ holder_among (link number) instant (map (held_message (setting_of F.meaning self.now) self.now.tasks.now) held.now) }
     {
         holder(self, held, Place::Link(number), instant)
     }

@@ -71,7 +71,7 @@ fn delays_within(slack: i64, period: u32) -> u32
 // How many delays of a message, from 0 on, are in time: each cycle of delay costs one of the slack that it has with none. None
 // where the fabric has no route.
 pub(crate) fn delays_in_time<F: Fabric>(fabric: &F, ends: &Ends, m: &OpenMessage) -> Option<u32>
-    ensures { MatchOption result ((F.Fabric.meaning fabric.now).route ends.now.source.core ends.now.destination.core ≡ None) (λ n. (r : List ℕ) × ((F.Fabric.meaning fabric.now).route ends.now.source.core ends.now.destination.core ≡ Some r) × InTime (over F.Fabric.meaning fabric.now) ends.now.source ends.now.destination m.now (length r) n) }
+    ensures { MatchOption result ((F.meaning fabric.now).route ends.now.source.core ends.now.destination.core ≡ None) (λ n. (r : List ℕ) × ((F.meaning fabric.now).route ends.now.source.core ends.now.destination.core ≡ Some r) × InTime (over F.meaning fabric.now) ends.now.source ends.now.destination m.now (length r) n) }
 {
     let at_once = m.at(0);
     let way = Way::between(fabric, ends, &at_once)?;
@@ -92,7 +92,7 @@ pub fn late_by(way: &Way, destination: &Task, m: &Message) -> Option<i64>
 impl<'a, F: Fabric> Board<'a, F> {
     // The way of a held message, by the names of its tasks.
     pub(crate) fn way_of(&self, m: &Message) -> Option<Way>
-        ensures { takes_of (setting_of F.Fabric.meaning self.now) result ≡ message_takes (setting_of F.Fabric.meaning self.now) self.now.tasks.now m.now }
+        ensures { takes_of (setting_of F.meaning self.now) result ≡ message_takes (setting_of F.meaning self.now) self.now.tasks.now m.now }
     {
         let ends = self.ends(m)?;
         Way::between(self.fabric, &ends, m)
@@ -100,7 +100,7 @@ impl<'a, F: Fabric> Board<'a, F> {
 
     // The first meeting of packets on their way with those of the held messages.
     pub fn first_packet_meeting(&self, held: &[Message], own: &Way) -> Option<Meeting>
-        ensures { result ≡ first_met (way_takes (setting_of F.Fabric.meaning self.now) own.now) (map (held_message (setting_of F.Fabric.meaning self.now) self.now.tasks.now) held.now) }
+        ensures { result ≡ first_met (way_takes (setting_of F.meaning self.now) own.now) (map (held_message (setting_of F.meaning self.now) self.now.tasks.now) held.now) }
     {
         let stays = own.stays(self.fabric);
         first_among(self, held, stays.as_slice())
@@ -108,7 +108,7 @@ impl<'a, F: Fabric> Board<'a, F> {
 
     // The least slack of a message between two of the tasks.
     pub fn slack_of(&self, m: &Message) -> Option<i64>
-        ensures { result ≡ slack_among (setting_of F.Fabric.meaning self.now) self.now.tasks.now m.now }
+        ensures { result ≡ slack_among (setting_of F.meaning self.now) self.now.tasks.now m.now }
     {
         let ends = self.ends(m)?;
         let way = Way::between(self.fabric, &ends, m)?;

@@ -19,7 +19,7 @@ use refusals::refusal::Meeting;
 impl Way {
     // The way of a message between two tasks, or none where the fabric has no route.
     pub fn between<F: Fabric>(fabric: &F, ends: &Ends, m: &Message) -> Option<Way>
-        ensures { MatchOption result ((F.Fabric.meaning fabric.now).route ends.now.source.core ends.now.destination.core ≡ None) (IsWay (over F.Fabric.meaning fabric.now) ends.now.source ends.now.destination m.now) }
+        ensures { MatchOption result ((F.meaning fabric.now).route ends.now.source.core ends.now.destination.core ≡ None) (IsWay (over F.meaning fabric.now) ends.now.source ends.now.destination m.now) }
     {
         let source = ends.source;
         let from = source.core as usize;
@@ -41,7 +41,7 @@ impl Way {
     #[inline(always)]
     fn stay_on<F: Fabric>(&self, fabric: &F, place: usize) -> Option<Stay>
         requires { place ≤ 64 }
-        ensures { MatchOption result (None ≡ route_place ((F.Fabric.meaning fabric.now).route self.now.from self.now.to) place) (StaysOn (F.Fabric.meaning fabric.now) self.now place) }
+        ensures { MatchOption result (None ≡ route_place ((F.meaning fabric.now).route self.now.from self.now.to) place) (StaysOn (F.meaning fabric.now) self.now place) }
     {
         let link = fabric.route_link(self.from, self.to, place)?;
         Some(Stay {
@@ -56,7 +56,7 @@ impl Way {
 
     // The stays of packets on their way, one on each link.
     pub(crate) fn stays<F: Fabric>(&self, fabric: &F) -> ArrayVec<Stay, 64>
-        ensures { map stay_take result.items ≡ way_takes (over F.Fabric.meaning fabric.now) self.now }
+        ensures { map stay_take result.items ≡ way_takes (over F.meaning fabric.now) self.now }
     {
         let mut stays = ArrayVec::new();
         // by places, from each of which the start of its stay is reckoned; a `collect` would ask for an allocator
@@ -76,7 +76,7 @@ impl Way {
         own: &[Stay],
         name: u16,
     ) -> Option<Meeting>
-        ensures { result ≡ earliest_from best (meetings name (map stay_take own.now) (way_takes (over F.Fabric.meaning fabric.now) self.now)) }
+        ensures { result ≡ earliest_from best (meetings name (map stay_take own.now) (way_takes (over F.meaning fabric.now) self.now)) }
     {
         let longest = F::reach();
         let mut best = best;

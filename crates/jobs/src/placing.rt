@@ -23,7 +23,7 @@ use crate::task::{first_task_meeting, stay_of};
 use crate::way::Way;
 use fabric::Fabric;
 use holds::least_wait;
-use records::named::pick;
+use records::search::named;
 use records::record::{Message, Task};
 use refusals::refusal::Meeting;
 
@@ -54,7 +54,7 @@ fn stay_at(stays: &[Stay], number: u16) -> Option<Stay>
 fn wait_past<B, J: Held<B>>(board: &B, held: &[J], own: &[Stay], meeting: &Meeting) -> Option<u32>
     ensures { StillMet (map stay_take own.now) (map (job_of J.Named.label (J.Held.takes board.now)) held.now) result }
 {
-    let Some(job) = pick(held, meeting.held) else {
+    let Some(job) = named(held, meeting.held) else {
         return Some(0);
     };
     let Some(one) = stay_at(own, meeting.place) else {
@@ -87,7 +87,7 @@ pub fn first_phase(held: &[Task], t: &OpenTask) -> Option<u32>
 impl<'a, F: Fabric> Board<'a, F> {
     // The smallest delay at which the message between two tasks is neither late nor meets a held one.
     pub fn first_delay(&self, held: &[Message], ends: &Ends, m: &OpenMessage) -> Option<u32>
-        ensures { result ≡ first_from (λ v. clear (on_way (setting_of F.Fabric.meaning self.now) (record { tasks = self.now.tasks.now; messages = held.now }) (message_at m.now v) ends.now.source ends.now.destination ((F.Fabric.meaning self.now.fabric.now).route ends.now.source.core ends.now.destination.core))) ends.now.source.period 0 }
+        ensures { result ≡ first_from (λ v. clear (on_way (setting_of F.meaning self.now) (record { tasks = self.now.tasks.now; messages = held.now }) (message_at m.now v) ends.now.source ends.now.destination ((F.meaning self.now.fabric.now).route ends.now.source.core ends.now.destination.core))) ends.now.source.period 0 }
     {
         let count = delays_in_time(self.fabric, ends, m)?;
         let mut delay: u32 = 0;

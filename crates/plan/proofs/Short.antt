@@ -4,7 +4,7 @@ use Rattle.std.proofs.Common.{◌≡◌, ℕ, zero, suc, ◌+◌, ◌*◌, ◌/�
 use Rattle.std.proofs.lemmas.Bool.{cond_both}
 use Rattle.records.specs.Bytes.{Bytes, be}
 use Rattle.records.specs.Forms.{message_in, message_of, task_in, task_of}
-use Rattle.records.specs.Named.{spot}
+use Rattle.records.specs.Named.{index_of}
 use Rattle.records.specs.Sections.{cut_of, fitting, in_front, read_from, record_at, record_bytes, section_records}
 use Rattle.records.specs.Unique.{chosen}
 use Rattle.records.specs.declared.record.Task.{Task}
@@ -54,7 +54,7 @@ message_short js m fits here =
 
 pub drop_task_short : (js : Jobs) (n : ℕ) → ShortNames js → ShortNames (drop_task js n).1
 drop_task_short js n here =
-    cond_both (is_some (spot task_name n js.tasks)) _ _ (λ (x : Result (Unit {0}) DropFault × Jobs). ShortNames x.1)
+    cond_both (is_some (index_of task_name n js.tasks)) _ _ (λ (x : Result (Unit {0}) DropFault × Jobs). ShortNames x.1)
     (λ _. cond_both (in_use n js.messages) _ _ (λ (x : Result (Unit {0}) DropFault × Jobs). ShortNames x.1)
     (λ _. here)
     (λ _. record { tasks = λ t i. here.tasks t (without_in task_name n t js.tasks i); messages = here.messages }))
@@ -62,7 +62,7 @@ drop_task_short js n here =
 
 pub drop_message_short : (js : Jobs) (n : ℕ) → ShortNames js → ShortNames (drop_message js n).1
 drop_message_short js n here =
-    cond_both (is_some (spot message_name n js.messages)) _ _ (λ (x : Result (Unit {0}) DropFault × Jobs). ShortNames x.1)
+    cond_both (is_some (index_of message_name n js.messages)) _ _ (λ (x : Result (Unit {0}) DropFault × Jobs). ShortNames x.1)
     (λ _. record { tasks = here.tasks; messages = λ m i. here.messages m (without_in message_name n m js.messages i) })
     (λ _. here)
 

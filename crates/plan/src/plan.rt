@@ -23,7 +23,7 @@ pub struct Plan<'f, F: Fabric> {
     fabric: &'f F,
     tasks: Table<Task, 64>,
     messages: Table<Message, 128>,
-    ghost clean: { ∥ Clean (over F.Fabric.meaning fabric.now) (tabled tasks messages) ∥₁ },
+    ghost clean: { ∥ Clean (over F.meaning fabric.now) (tabled tasks messages) ∥₁ },
     ghost ordered: { Canonical (tabled tasks messages) },
     ghost short: { ShortNames (tabled tasks messages) },
 }

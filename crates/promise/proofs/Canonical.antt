@@ -2,10 +2,10 @@
 use Rattle.std.proofs.Common.{◌≡◌, ℕ, suc, ◌<◌, ◌≤◌, true, false, eqb, List, [], ◌∷◌, map, length, is_some, Some, None, Option, Result, sym, refl, ap, ◌∙◌, arith}
 use Rattle.std.specs.Option.{option_map}
 use Rattle.std.proofs.lemmas.Bool.{cond_both}
-use Rattle.records.specs.Named.{add, ascends, spot, without}
+use Rattle.records.specs.Named.{add, ascends, index_of, without}
 use Rattle.records.specs.declared.record.Task.{Task}
 use Rattle.records.specs.declared.record.Message.{Message}
-use Rattle.records.proofs.Places.{ascends_add, ascends_without, length_add, spot_named}
+use Rattle.records.proofs.Places.{ascends_add, ascends_without, length_add, index_named}
 use Rattle.jobs.specs.declared.fault.DropFault.{DropFault}
 use Rattle.jobs.specs.declared.fault.TaskFault.TheVariants as task_fault
 use Rattle.jobs.specs.declared.open.OpenTask.{OpenTask}
@@ -28,8 +28,8 @@ use Rattle.promise.proofs.Passing.{message_passes, task_passes}
 
 module _ {X : Type 0} (name : X → ℕ) where
   -- a name of no member stands nowhere
-  apart_spot : (n : ℕ) (xs : List X) → ((y : X) → In y xs → name y ≡ n → ⊥) → spot name n xs ≡ None
-  apart_spot n xs apart = none (spot name n xs) (spot_named name n xs ∙ ap is_some (apart_none name n xs apart))
+  apart_index : (n : ℕ) (xs : List X) → ((y : X) → In y xs → name y ≡ n → ⊥) → index_of name n xs ≡ None
+  apart_index n xs apart = none (index_of name n xs) (index_named name n xs ∙ ap is_some (apart_none name n xs apart))
     where
       none : (o : Option ℕ) → is_some o ≡ false → o ≡ None
       none None e = refl
@@ -37,7 +37,7 @@ module _ {X : Type 0} (name : X → ℕ) where
 
   -- names still ascend with a new one
   ascends_more : (x : X) (xs : List X) → 0 < name x → ((y : X) → In y xs → name y ≡ name x → ⊥) → ascends name 0 xs ≡ true → ascends name 0 (add name x xs) ≡ true
-  ascends_more x xs some apart e = ascends_add name 0 x xs some (apart_spot (name x) xs apart) e
+  ascends_more x xs some apart e = ascends_add name 0 x xs some (apart_index (name x) xs apart) e
 
   -- a list without a name is no longer
   length_less : (n : ℕ) (xs : List X) → length (without name n xs) ≤ length xs
@@ -95,13 +95,13 @@ message_less_canonical js n here =
 -- a dropping takes one job out or changes nothing
 pub drop_task_canonical : (js : Jobs) (n : ℕ) → Canonical js → Canonical (drop_task js n).1
 drop_task_canonical js n here =
-    cond_both (is_some (spot task_name n js.tasks)) _ _ (λ (x : Result (Unit {0}) DropFault × Jobs). Canonical x.1)
+    cond_both (is_some (index_of task_name n js.tasks)) _ _ (λ (x : Result (Unit {0}) DropFault × Jobs). Canonical x.1)
     (λ _. cond_both (in_use n js.messages) _ _ (λ (x : Result (Unit {0}) DropFault × Jobs). Canonical x.1) (λ _. here) (λ _. task_less_canonical js n here))
     (λ _. here)
 
 pub drop_message_canonical : (js : Jobs) (n : ℕ) → Canonical js → Canonical (drop_message js n).1
 drop_message_canonical js n here =
-    cond_both (is_some (spot message_name n js.messages)) _ _ (λ (x : Result (Unit {0}) DropFault × Jobs). Canonical x.1)
+    cond_both (is_some (index_of message_name n js.messages)) _ _ (λ (x : Result (Unit {0}) DropFault × Jobs). Canonical x.1)
     (λ _. message_less_canonical js n here)
     (λ _. here)
 

@@ -1,8 +1,8 @@
 -- What a dropping answers, by who is held and who names whom.
 use Rattle.std.proofs.Common.{◌≡◌, ℕ, Bool, true, false, cond, eqb, ◌⊎◌, List, [], ◌∷◌, is_some, Some, None, Ok, Err, Option, Result, sym, refl, ◌∙◌, subst, inl, inr, ⊎_elim}
 use Rattle.std.proofs.lemmas.Bool.{both_ways, eq-eqb, eqb-true, or_cases, or_left, or_right}
-use Rattle.records.specs.Named.{named, spot}
-use Rattle.records.proofs.Places.{spot_named}
+use Rattle.records.specs.Named.{named, index_of}
+use Rattle.records.proofs.Places.{index_named}
 use Rattle.records.specs.declared.record.Message.{Message}
 use Rattle.jobs.specs.declared.fault.DropFault.{DropFault}
 use Rattle.jobs.specs.declared.fault.DropFault.TheVariants.{InUse, Unknown}
@@ -13,8 +13,8 @@ use Rattle.promise.specs.Droppings.{MessageDropped, TaskDropped}
 use Rattle.promise.proofs.Lists.{fresh_apart, in_cases, in_nil, in_there, named_in}
 
 -- a place that a name has is a member's
-held_spot : {X : Type 0} (name : X → ℕ) (n : ℕ) (xs : List X) → is_some (spot name n xs) ≡ true → (x : X) × In x xs × (name x ≡ n)
-held_spot {X = X} name n xs e = go (named name n xs) refl (sym (spot_named name n xs) ∙ e)
+held_index : {X : Type 0} (name : X → ℕ) (n : ℕ) (xs : List X) → is_some (index_of name n xs) ≡ true → (x : X) × In x xs × (name x ≡ n)
+held_index {X = X} name n xs e = go (named name n xs) refl (sym (index_named name n xs) ∙ e)
   where
     go : (o : Option X) → named name n xs ≡ o → is_some o ≡ true → (x : X) × In x xs × (name x ≡ n)
     go None is x = cc
@@ -42,18 +42,18 @@ in_used n (o ∷ ms) m i x =
     (λ j. or_right (names_task n o) (in_use n ms) (in_used n ms m j x)) (in_cases o m ms i)
 
 pub task_dropping : (js : Jobs) (n : ℕ) → TaskDropped js n (drop_task js n).0
-task_dropping js n = go (is_some (spot task_name n js.tasks)) refl (in_use n js.messages) refl
+task_dropping js n = go (is_some (index_of task_name n js.tasks)) refl (in_use n js.messages) refl
   where
-    go : (b : Bool) → is_some (spot task_name n js.tasks) ≡ b → (u : Bool) → in_use n js.messages ≡ u
+    go : (b : Bool) → is_some (index_of task_name n js.tasks) ≡ b → (u : Bool) → in_use n js.messages ≡ u
         → TaskDropped js n (cond {A = Result (Unit {0}) DropFault × Jobs} b (cond u (Err InUse, js) (Ok tt, without_task js n)) (Err Unknown, js)).0
     go true eb true eu =
         record {
-          unknown = (λ e. cc, λ never. absurd (never (held_spot task_name n js.tasks eb)));
-          in_use = (λ e. (held_spot task_name n js.tasks eb, used n js.messages eu), λ x. refl);
+          unknown = (λ e. cc, λ never. absurd (never (held_index task_name n js.tasks eb)));
+          in_use = (λ e. (held_index task_name n js.tasks eb, used n js.messages eu), λ x. refl);
         }
     go true eb false eu =
         record {
-          unknown = (λ e. cc, λ never. absurd (never (held_spot task_name n js.tasks eb)));
+          unknown = (λ e. cc, λ never. absurd (never (held_index task_name n js.tasks eb)));
           in_use = (λ e. cc, λ x. absurd (both_ways (in_use n js.messages) eu (in_used n js.messages x.1.0 x.1.1 x.1.2)));
         }
     go false eb u eu =
@@ -63,12 +63,12 @@ task_dropping js n = go (is_some (spot task_name n js.tasks)) refl (in_use n js.
         }
 
 pub message_dropping : (js : Jobs) (n : ℕ) → MessageDropped js n (drop_message js n).0
-message_dropping js n = go (is_some (spot message_name n js.messages)) refl
+message_dropping js n = go (is_some (index_of message_name n js.messages)) refl
   where
-    go : (b : Bool) → is_some (spot message_name n js.messages) ≡ b → MessageDropped js n (cond {A = Result (Unit {0}) DropFault × Jobs} b (Ok tt, without_message js n) (Err Unknown, js)).0
+    go : (b : Bool) → is_some (index_of message_name n js.messages) ≡ b → MessageDropped js n (cond {A = Result (Unit {0}) DropFault × Jobs} b (Ok tt, without_message js n) (Err Unknown, js)).0
     go true eb =
         record {
-          unknown = (λ e. cc, λ never. absurd (never (held_spot message_name n js.messages eb)));
+          unknown = (λ e. cc, λ never. absurd (never (held_index message_name n js.messages eb)));
           free = λ e. cc;
         }
     go false eb =

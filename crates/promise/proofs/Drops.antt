@@ -1,7 +1,7 @@
 -- Droppings keep a clean plan clean.
 use Rattle.std.proofs.Common.{◌≡◌, ℕ, false, eqb, List, [], ◌∷◌, is_some, Result, sym, ap, ◌∙◌, ⊎_elim}
 use Rattle.std.proofs.lemmas.Bool.{cond_both, eqb-false, or_parts}
-use Rattle.records.specs.Named.{spot, without}
+use Rattle.records.specs.Named.{index_of, without}
 use Rattle.records.specs.declared.record.Message.{Message}
 use Rattle.jobs.specs.declared.fault.DropFault.{DropFault}
 use Rattle.jobs.specs.Drops.{drop_message, drop_task, in_use, names_task}
@@ -96,12 +96,12 @@ task_dropped g js n clean free = dropped g js n clean free
 -- a dropping of a task is refused where a held message names it, and a refused one changes nothing
 pub drop_task_keeps : (g : Setting) (js : Jobs) (n : ℕ) → Clean g js → Clean g (drop_task js n).1
 drop_task_keeps g js n clean =
-    cond_both (is_some (spot task_name n js.tasks)) _ _ (λ (x : Result (Unit {0}) DropFault × Jobs). Clean g x.1)
+    cond_both (is_some (index_of task_name n js.tasks)) _ _ (λ (x : Result (Unit {0}) DropFault × Jobs). Clean g x.1)
     (λ _. cond_both (in_use n js.messages) _ _ (λ (x : Result (Unit {0}) DropFault × Jobs). Clean g x.1) (λ _. clean) (λ free. task_dropped g js n clean free))
     (λ _. clean)
 
 pub drop_message_keeps : (g : Setting) (js : Jobs) (n : ℕ) → Clean g js → Clean g (drop_message js n).1
 drop_message_keeps g js n clean =
-    cond_both (is_some (spot message_name n js.messages)) _ _ (λ (x : Result (Unit {0}) DropFault × Jobs). Clean g x.1)
+    cond_both (is_some (index_of message_name n js.messages)) _ _ (λ (x : Result (Unit {0}) DropFault × Jobs). Clean g x.1)
     (λ _. message_dropped g js n clean)
     (λ _. clean)

@@ -2,7 +2,7 @@
 use Rattle.std.proofs.Common.{◌≡◌, ℕ, zero, suc, true, false, cond, eqb, ltb, ◌⊎◌, List, [], ◌∷◌, ◌++◌, map, is_some, Some, None, sym, refl, ap, ◌∙◌, inl, inr, ⊎_elim, arith}
 use Rattle.std.specs.Option.{option_map}
 use Rattle.std.proofs.lemmas.Bool.{cond_both, cond-true, cond-false, eq-eqb, eqb-false, eqb-true, ne_eqb, both_ways}
-use Rattle.records.specs.Named.{named, spot, add, without}
+use Rattle.records.specs.Named.{named, index_of, add, without}
 use Rattle.records.proofs.Places.{some_on}
 use Rattle.promise.specs.Clean.{In, Distinct}
 
@@ -94,13 +94,13 @@ module _ {X : Type 0} (name : X → ℕ) where
       (in_cases y x ys k)
 
   -- a name that is not there is no member's
-  pub fresh_apart : (n : ℕ) (xs : List X) → is_some (spot name n xs) ≡ false → (y : X) → In y xs → name y ≡ n → ⊥
+  pub fresh_apart : (n : ℕ) (xs : List X) → is_some (index_of name n xs) ≡ false → (y : X) → In y xs → name y ≡ n → ⊥
   fresh_apart n [] e y k same = in_nil y k
   fresh_apart n (x ∷ xs) e y k same =
-      cond_both (eqb (name x) n) (Some 0) (option_map suc (spot name n xs)) (λ o. is_some o ≡ false → ⊥)
+      cond_both (eqb (name x) n) (Some 0) (option_map suc (index_of name n xs)) (λ o. is_some o ≡ false → ⊥)
       (λ _ is. both_ways true is refl)
       (λ t is. ⊎_elim (λ s. eqb-false (name x) n t (ap name (sym s) ∙ same))
-      (λ j. fresh_apart n xs (sym (some_on (spot name n xs)) ∙ is) y j same)
+      (λ j. fresh_apart n xs (sym (some_on (index_of name n xs)) ∙ is) y j same)
       (in_cases x y xs k))
       e
 

@@ -3,8 +3,8 @@ use Rattle.std.proofs.Common.{◌≡◌, ℕ, ◌≤◌, true, false, ◌⊎◌,
 use Rattle.std.specs.Option.{option_map}
 use Rattle.std.proofs.lemmas.Bool.{ne_eqb, or_from}
 use Rattle.fabric.specs.Network.{Lawful}
-use Rattle.records.specs.Named.{spot}
-use Rattle.records.proofs.Places.{spot_named}
+use Rattle.records.specs.Named.{index_of}
+use Rattle.records.proofs.Places.{index_named}
 use Rattle.records.specs.declared.record.Task.{Task}
 use Rattle.records.specs.declared.record.Message.{Message}
 use Rattle.refusals.specs.declared.refusal.Meeting.{Meeting}
@@ -62,8 +62,8 @@ module _ (g : Setting) (most : ℕ) (few : most ≤ 64) (laws : Lawful most g.ne
   -- none of the conditions of the checks holds, so no check answers
   pub past : MessagePast g js m s d
   past =
-      let none : is_some (spot message_name m.name js.messages) ≡ false =
-      spot_named message_name m.name js.messages ∙ ap is_some (apart_none message_name m.name js.messages p.fresh) in
+      let none : is_some (index_of message_name m.name js.messages) ≡ false =
+      index_named message_name m.name js.messages ∙ ap is_some (apart_none message_name m.name js.messages p.fresh) in
       record {
         ends = record {
           fresh = or_from _ _ (ne_eqb m.name 0 (λ e. let z = p.named in omega arith)) none;

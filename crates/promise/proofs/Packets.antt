@@ -2,7 +2,7 @@
 use Rattle.std.proofs.Common.{◌≡◌, ℕ, ◌≤◌, true, List, Some, Option, sym, refl, ap, ◌∙◌, subst}
 use Rattle.std.specs.List.{slice_get}
 use Rattle.fabric.specs.Network.{Lawful}
-use Rattle.holds.specs.Span.{Busy, HoldsAt, Span}
+use Rattle.holds.specs.Span.{Busy, RunHolds, Span}
 use Rattle.records.specs.declared.record.Task.{Task}
 use Rattle.records.specs.declared.record.Message.{Message}
 use Rattle.jobs.specs.Jobs.{Jobs, Setting, task_name, task_named}
@@ -56,7 +56,7 @@ module _ (g : Setting) (most : ℕ) (few : most ≤ 64) (laws : Lawful most g.ne
   record Here (k l n : ℕ) : Type 0 where
     place : ℕ
     at : slice_get f.route place ≡ Some l
-    holds : HoldsAt (link_span g f.source m place) k n
+    holds : RunHolds (link_span g f.source m place) k n
 
   here : (k l n : ℕ) → PacketTakes g ts m k l n → Here k l n
   here k l n x =
@@ -68,7 +68,7 @@ module _ (g : Setting) (most : ℕ) (few : most ≤ 64) (laws : Lawful most g.ne
       record {
         place = x.place;
         at = subst (λ ls. slice_get ls x.place ≡ Some l) r x.at;
-        holds = subst (λ (t : Task). HoldsAt (link_span g t m x.place) k n) s x.holds;
+        holds = subst (λ (t : Task). RunHolds (link_span g t m x.place) k n) s x.holds;
       }
 
   -- so it is one of the takes
@@ -101,7 +101,7 @@ module _ (g : Setting) (most : ℕ) (few : most ≤ 64) (laws : Lawful most g.ne
           ways = f.ways;
           place = t.0;
           at = t.2;
-          holds = subst (λ (x : Span). HoldsAt x busy.0 n) (sym same) busy.1;
+          holds = subst (λ (x : Span). RunHolds x busy.0 n) (sym same) busy.1;
         },
       )
 

@@ -5,7 +5,7 @@ use Rattle.std.proofs.lemmas.Bool.{cond-true, le-leb, leb-true}
 use Rattle.std.proofs.lemmas.Option.{same_Some}
 use Rattle.fabric.specs.Network.{Lawful}
 use Rattle.holds.specs.Gcd.{gcd}
-use Rattle.holds.specs.Span.{HoldsAt, Span}
+use Rattle.holds.specs.Span.{RunHolds, Span}
 use Rattle.records.specs.Named.{named}
 use Rattle.records.specs.declared.record.Task.{Task}
 use Rattle.records.specs.declared.record.Message.{Message}
@@ -85,7 +85,7 @@ module _ (g : Setting) (js : Jobs) (clean : Clean g js) (c n : ℕ) where
           let at : core c ≡ core t.core = same_place_true (core c) h.take.place h.has.0 ∙ ap (λ (x : Take). x.place) take in
           let span : h.has.1.0 ≡ task_span t =
           same_Some _ _ (sym h.has.1.1 ∙ ap (λ (x : Take). x.hold) take ∙ task_holds t (timely_made g t (clean.tasks t i))) in
-          (t, i, ap (λ (j : HeldJob). j.name) is ∙ h.named, (ap number (sym at), subst (λ (s : Span). HoldsAt s k n) span h.has.1.2))
+          (t, i, ap (λ (j : HeldJob). j.name) is ∙ h.named, (ap number (sym at), subst (λ (s : Span). RunHolds s k n) span h.has.1.2))
 
   -- and a run of a held task that has the core is one of the rule's takes
   of_task : (t : Task) (k : ℕ) → In t js.tasks → RunTakes t k c n → Holding (map held_task js.tasks) (core c) n t.name k
@@ -165,7 +165,7 @@ module _ (g : Setting) (most : ℕ) (few : most ≤ 64) (laws : Lawful most g.ne
                 ways = made.ways;
                 place = t.0;
                 at = t.2 ∙ ap Some (ap number (sym at));
-                holds = subst (λ (s : Span). HoldsAt s k n) span h.has.1.2;
+                holds = subst (λ (s : Span). RunHolds s k n) span h.has.1.2;
               },
             )
 

@@ -5,7 +5,7 @@ use Rattle.std.proofs.lemmas.Bool.{cases_order}
 use Rattle.std.proofs.lemmas.Bool.Decides.{nat_tests}
 use Rattle.std.proofs.lemmas.Option.{same_Some}
 use Rattle.fabric.specs.Network.{Lawful, Once}
-use Rattle.holds.specs.Span.{HoldsAt, Proper}
+use Rattle.holds.specs.Span.{RunHolds, Proper}
 use Rattle.holds.proofs.Busy.{run_only}
 use Rattle.records.specs.declared.record.Task.{Task}
 use Rattle.records.specs.declared.record.Message.{Message}
@@ -51,12 +51,12 @@ module _ (g : Setting) (most : ℕ) (few : most ≤ 64) (laws : Lawful most g.ne
   nth_below (x ∷ xs) (suc i) l at = let k = nth_below xs i l at in (omega (arith, k.0), k.1)
 
   -- two packets of one message on one link at one instant are the same packet: the link stands once on the route
-  pub packet_once : (i j k n l a : ℕ) → slice_get r i ≡ Some l → slice_get r j ≡ Some l → HoldsAt (link_span g s m i) k n → HoldsAt (link_span g s m j) a n → 1 ≤ m.width → m.width ≤ s.period → k ≡ a
+  pub packet_once : (i j k n l a : ℕ) → slice_get r i ≡ Some l → slice_get r j ≡ Some l → RunHolds (link_span g s m i) k n → RunHolds (link_span g s m j) a n → 1 ≤ m.width → m.width ≤ s.period → k ≡ a
   packet_once i j k n l a at at' h h' some fits =
       let p = nth_below r i l at in
       let q = nth_below r j l at' in
       let same : i ≡ j = same_place (laws.once s.core d.core r e) i j p.0 q.0 (p.1 ∙ sym q.1) in
-      let h2 : HoldsAt (link_span g s m i) a n = subst (λ x. HoldsAt (link_span g s m x) a n) (sym same) h' in
+      let h2 : RunHolds (link_span g s m i) a n = subst (λ x. RunHolds (link_span g s m x) a n) (sym same) h' in
       run_only (link_span g s m i) n a k (record { some = omega arith; fits = fits }) h2 h
     where
       same_place : Once r → (i j : ℕ) → i < length r → j < length r → get_or r i 0 ≡ get_or r j 0 → i ≡ j

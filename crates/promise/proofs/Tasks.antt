@@ -3,10 +3,10 @@ use Rattle.std.proofs.Common.{◌≡◌, ℕ, false, ◌⊎◌, List, [], ◌∷
 use Rattle.std.specs.Option.{option_map}
 use Rattle.std.proofs.lemmas.Bool.{ne_eqb, or_from}
 use Rattle.std.proofs.lemmas.Option.{same_Some}
-use Rattle.holds.specs.Span.{HoldsAt, Span}
+use Rattle.holds.specs.Span.{RunHolds, Span}
 use Rattle.holds.proofs.Busy.{run_only}
-use Rattle.records.specs.Named.{add, spot}
-use Rattle.records.proofs.Places.{spot_named}
+use Rattle.records.specs.Named.{add, index_of}
+use Rattle.records.proofs.Places.{index_named}
 use Rattle.records.specs.declared.record.Task.{Task}
 use Rattle.records.specs.declared.record.Message.{Message}
 use Rattle.refusals.specs.declared.refusal.Meeting.{Meeting}
@@ -51,8 +51,8 @@ module _ (g : Setting) (t u : Task) (tm : TaskMade g t) (um : TaskMade g u) wher
       let same : u.core ≡ t.core = ap number (sym m.same) in (
         m.mine_busy.0,
         m.theirs_busy.0,
-        (refl, subst (λ (h : Span). HoldsAt h m.mine_busy.0 n) mine m.mine_busy.1),
-        (same, subst (λ (h : Span). HoldsAt h m.theirs_busy.0 n) theirs m.theirs_busy.1),
+        (refl, subst (λ (h : Span). RunHolds h m.mine_busy.0 n) mine m.mine_busy.1),
+        (same, subst (λ (h : Span). RunHolds h m.theirs_busy.0 n) theirs m.theirs_busy.1),
       )
 
 module _ (g : Setting) (js : Jobs) (t : Task) (clean : Clean g js) (p : TaskPassed g js t) where
@@ -62,8 +62,8 @@ module _ (g : Setting) (js : Jobs) (t : Task) (clean : Clean g js) (p : TaskPass
   -- none of the conditions of the checks holds, so no check answers
   pub past : TaskPast g.network.nodes js t
   past =
-      let none : is_some (spot task_name t.name js.tasks) ≡ false =
-      spot_named task_name t.name js.tasks ∙ ap is_some (apart_none task_name t.name js.tasks p.fresh) in
+      let none : is_some (index_of task_name t.name js.tasks) ≡ false =
+      index_named task_name t.name js.tasks ∙ ap is_some (apart_none task_name t.name js.tasks p.fresh) in
       record {
         fresh = or_from _ _ (ne_eqb t.name 0 (λ e. let z = p.named in omega arith)) none;
         inside = p.on_core;

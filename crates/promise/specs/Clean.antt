@@ -7,7 +7,7 @@
 use Rattle.std.specs.Prelude.{◌≡◌, ℕ, ◌+◌, ◌*◌, ◌<◌, ◌≤◌, List, length, Some}
 use Rattle.std.specs.List.{slice_get}
 use Rattle.holds.specs.Slack.{ReadAt}
-use Rattle.holds.specs.Span.{HoldsAt, Span}
+use Rattle.holds.specs.Span.{RunHolds, Span}
 use Rattle.records.specs.declared.record.Task.{Task}
 use Rattle.records.specs.declared.record.Message.{Message}
 use Rattle.jobs.specs.Jobs.{Setting, Jobs, task_named}
@@ -35,7 +35,7 @@ pub record TaskMade (g : Setting) (t : Task) : Type 0 where
 
 -- run k of a task has the core c at the instant n
 abbrev pub RunTakes : Task → ℕ → ℕ → ℕ → Type 0
-RunTakes t k c n = (t.core ≡ c) × HoldsAt (task_span t) k n
+RunTakes t k c n = (t.core ≡ c) × RunHolds (task_span t) k n
 
 -- ---- messages
 
@@ -57,7 +57,7 @@ pub record PacketTakes (g : Setting) (ts : List Task) (m : Message) (k l n : ℕ
   pub ways : Ways g ts m source destination route
   pub place : ℕ
   pub at : slice_get route place ≡ Some l
-  pub holds : HoldsAt (link_span g source m place) k n
+  pub holds : RunHolds (link_span g source m place) k n
 
 -- for every packet there is a run of the destination, the earliest that starts at or after the due instant, by whose start it has arrived
 abbrev pub OnTime : Setting → Task → Task → Message → List ℕ → Type 0

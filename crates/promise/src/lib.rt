@@ -7,9 +7,7 @@ ghost use Rattle.promise.specs.Clean.{Clean};
 ghost use Rattle.std.specs.Prelude.{◌≡◌};
 
 // A new plan is clean.
-pub fn plans_stand() -> u8
-    ensures answer { result ≡ 0 }
+pub fn plans_stand()
     ensures clean { (g : Setting) → Clean g nothing }
 {
-    0
 }

@@ -1,6 +1,6 @@
 -- What is held after a call, by its answer.
 use Rattle.std.proofs.Common.{◌≡◌, ℕ, Bool, true, false, cond, List, is_some, Some, None, Ok, Err, Option, Result, refl, subst}
-use Rattle.records.specs.Named.{add, spot, without}
+use Rattle.records.specs.Named.{add, index_of, without}
 use Rattle.jobs.specs.declared.fault.DropFault.{DropFault}
 use Rattle.jobs.specs.declared.fault.DropFault.TheVariants.{InUse, Unknown}
 use Rattle.jobs.specs.declared.fault.TaskFault.{TaskFault}
@@ -51,13 +51,13 @@ after g js c (placing_message m) = go (message_checks g js (message_at m 0) (λ 
       λ v x. let same : w ≡ v = cc in (subst (λ n. More (message_at m n) js.messages (add message_name (message_at m w) js.messages)) same (more message_name (message_at m w) js.messages), refl),
       λ e x. cc,
     )
-after g js c (dropping_task n) = go (is_some (spot task_name n js.tasks)) (in_use n js.messages)
+after g js c (dropping_task n) = go (is_some (index_of task_name n js.tasks)) (in_use n js.messages)
   where
     go : (b u : Bool) → After g js (dropping_task n) (answer.Dropped (cond {A = Result (Unit {0}) DropFault × Jobs} b (cond u (Err InUse, js) (Ok tt, without_task js n)) (Err Unknown, js)).0) (cond {A = Result (Unit {0}) DropFault × Jobs} b (cond u (Err InUse, js) (Ok tt, without_task js n)) (Err Unknown, js)).1
     go true true = (λ x. cc, λ e x. refl)
     go true false = (λ _. (less task_name n js.tasks c.task_names, refl), λ e x. cc)
     go false u = (λ x. cc, λ e x. refl)
-after g js c (dropping_message n) = go (is_some (spot message_name n js.messages))
+after g js c (dropping_message n) = go (is_some (index_of message_name n js.messages))
   where
     go : (b : Bool) → After g js (dropping_message n) (answer.Dropped (cond {A = Result (Unit {0}) DropFault × Jobs} b (Ok tt, without_message js n) (Err Unknown, js)).0) (cond {A = Result (Unit {0}) DropFault × Jobs} b (Ok tt, without_message js n) (Err Unknown, js)).1
     go true = (λ _. (less message_name n js.messages c.message_names, refl), λ e x. cc)

@@ -112,13 +112,13 @@ pub fn replay<'f, F: Fabric>(
     fabric: &'f F,
     calls: &[Call<'_>],
 ) -> (Plan<'f, F>, Result<Vec<Answer<Vec<u8>>>, AllocError>)
-    ensures answers { IfOk result.1 (λ v. map (giving vec_items) v.items ≡ answers (over F.Fabric.meaning fabric.now) nothing (map asked calls.now)) }
-    ensures numbers { IfOk result.1 (λ v. map answer_told v.items ≡ map answer_told (answers (over F.Fabric.meaning fabric.now) nothing (map asked calls.now))) }
-    ensures held { jobs result.0 ≡ held (over F.Fabric.meaning fabric.now) nothing (map asked calls.now) }
-    ensures fabric { setting result.0 ≡ over F.Fabric.meaning fabric.now }
-    ensures clean { Clean (over F.Fabric.meaning fabric.now) (jobs result.0) }
-    ensures back { (i : ℕ) → LoadsBack (over F.Fabric.meaning fabric.now) (held (over F.Fabric.meaning fabric.now) nothing (take i (map asked calls.now))) }
-    ensures promise { Promise (over F.Fabric.meaning fabric.now) (map asked calls.now) }
+    ensures answers { IfOk result.1 (λ v. map (giving vec_items) v.items ≡ answers (over F.meaning fabric.now) nothing (map asked calls.now)) }
+    ensures numbers { IfOk result.1 (λ v. map answer_told v.items ≡ map answer_told (answers (over F.meaning fabric.now) nothing (map asked calls.now))) }
+    ensures held { jobs result.0 ≡ held (over F.meaning fabric.now) nothing (map asked calls.now) }
+    ensures fabric { setting result.0 ≡ over F.meaning fabric.now }
+    ensures clean { Clean (over F.meaning fabric.now) (jobs result.0) }
+    ensures back { (i : ℕ) → LoadsBack (over F.meaning fabric.now) (held (over F.meaning fabric.now) nothing (take i (map asked calls.now))) }
+    ensures promise { Promise (over F.meaning fabric.now) (map asked calls.now) }
 {
     calls_fit(calls);
     let mut answers = Ok(Vec::new(heap));
@@ -137,9 +137,7 @@ pub fn replay<'f, F: Fabric>(
 
 // After every list of calls on a new plan over every lawful network the plan is clean for all of time, and each call of the list
 // was answered as promised.
-pub fn promise_stands() -> u8
-    ensures answer { result ≡ 0 }
+pub fn promise_stands()
     ensures promise { MainPromise }
 {
-    0
 }

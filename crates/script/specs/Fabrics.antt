@@ -3,7 +3,7 @@
 use Rattle.std.specs.Prelude.{ℕ, List}
 use Rattle.fabric.specs.Grid.{grid_made}
 use Rattle.fabric.specs.Network.{Network}
-use Rattle.listed.specs.Setting.{network, setting_read}
+use Rattle.listed.specs.Description.{network, description_read}
 use Rattle.listed.specs.Told.{set_told}
 use Rattle.refusals.specs.Told.{plain}
 use Rattle.script.specs.Replies.{either}
@@ -19,4 +19,4 @@ mesh_reply x y delay = either ready (λ number. Refused (plain number)) (grid_ma
 
 -- a refused file tells section and record too
 abbrev pub listed_reply : List ℕ → Reply
-listed_reply file = either (λ p. ready (network p.0)) (λ e. Told (set_told e)) (setting_read file)
+listed_reply file = either (λ p. ready (network p.0)) (λ e. Told (set_told e)) (description_read file)

@@ -3,7 +3,7 @@
 --   reply_text      what a line is answered
 use Rattle.std.specs.Prelude.{◌≡◌, ℕ, List, ◌++◌, length, Some, None, Ok, Err, vec_items, codes, decimal, Option, Result}
 use Rattle.std.specs.Fmt.{signed_decimal}
-use Rattle.refusals.specs.Lines.{line_of, refused_text, told_text}
+use Rattle.refusals.specs.Lines.{line_text, refused_text, told_text}
 use Rattle.refusals.specs.Told.{buffer_told}
 use Rattle.refusals.specs.declared.refusal.Told.{Told}
 use Rattle.jobs.specs.Numbers.{task_told, message_told, placing_told, drop_told, place_told}
@@ -17,7 +17,7 @@ use Rattle.script.specs.declared.reply.Reply.TheVariants as reply
 
 -- a refusal with section and record is the verdict line of the same refusal, but for its newline
 abbrev pub ToldAsVerdicts : Type 0
-ToldAsVerdicts = (t : Told) → line_of (Err t) ≡ told_text t ++ codes "\n"
+ToldAsVerdicts = (t : Told) → line_text (Err t) ≡ told_text t ++ codes "\n"
 
 -- a word, a number, and another
 abbrev pub two : List ℕ → ℕ → ℕ → List ℕ

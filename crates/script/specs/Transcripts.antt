@@ -9,7 +9,7 @@ use Rattle.std.specs.Prelude.{ℕ, List, [], ◌∷◌, ◌++◌, Some, None, co
 use Rattle.std.specs.List.{slice_split}
 use Rattle.fabric.specs.Network.{Network}
 use Rattle.fabric.specs.Grid.{grid_made}
-use Rattle.listed.specs.Setting.{network, setting_read}
+use Rattle.listed.specs.Description.{network, description_read}
 use Rattle.jobs.specs.Jobs.{Jobs, Setting, nothing}
 use Rattle.replay.specs.Calls.{ask}
 use Rattle.script.specs.Fabrics.{listed_reply, mesh_reply}
@@ -29,7 +29,7 @@ begun net = record { setting = record { network = net }; jobs = nothing }
 -- the network of a fabric line that is taken; no other line sets one
 abbrev pub sets : Reading → Option Network
 sets (mesh_fabric x y delay) = either Some (λ _. None) (grid_made x y delay)
-sets (listed_fabric file) = either (λ p. Some (network p.0)) (λ _. None) (setting_read file)
+sets (listed_fabric file) = either (λ p. Some (network p.0)) (λ _. None) (description_read file)
 sets blank = None
 sets unread = None
 sets (calling a) = None

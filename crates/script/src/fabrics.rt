@@ -10,7 +10,7 @@ use records::head::HeadFault;
 use refusals::refusal::Refusal;
 
 fn ready<F: Fabric>(fabric: &F) -> Reply
-    ensures { result ≡ ready (F.Fabric.meaning fabric.now) }
+    ensures { result ≡ ready (F.meaning fabric.now) }
 {
     Reply::Ready {
         nodes: fabric.nodes(),

@@ -33,7 +33,7 @@ pub fn run_lines<F: Fabric>(
     fabric: &F,
     lines: &[Line],
 ) -> Result<Vec<Answer<Vec<u8>>>, AllocError>
-    ensures { IfOk result (λ v. map (giving vec_items) v.items ≡ answers (over F.Fabric.meaning fabric.now) nothing (asks (map said lines.now))) }
+    ensures { IfOk result (λ v. map (giving vec_items) v.items ≡ answers (over F.meaning fabric.now) nothing (asks (map said lines.now))) }
 {
     let calls = calls_of(heap, lines)?;
     let (_, answers) = replay(heap, fabric, &calls);

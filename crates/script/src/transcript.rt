@@ -1,6 +1,6 @@
 // A whole script: its lines, the plans that fabric lines begin, and each line with what it is answered.
 ghost use Rattle.jobs.specs.Jobs.{nothing};
-ghost use Rattle.listed.specs.Setting.{alone, network};
+ghost use Rattle.listed.specs.Description.{alone, network};
 ghost use Rattle.replay.specs.Calls.{answers, giving};
 ghost use Rattle.script.specs.Parts.{answered, first, unanswered};
 ghost use Rattle.script.specs.Readings.{read_line, said};
@@ -58,7 +58,7 @@ fn answers_of<F: Fabric>(
     fabric: &F,
     lines: &[Line],
 ) -> Result<Vec<Answer<Vec<u8>>>, AllocError>
-    ensures { IfOk result (λ v. map (giving vec_items) v.items ≡ answers (first (F.Fabric.meaning fabric.now) (map said lines.now)).setting nothing (asks (map said lines.now))) }
+    ensures { IfOk result (λ v. map (giving vec_items) v.items ≡ answers (first (F.meaning fabric.now) (map said lines.now)).setting nothing (asks (map said lines.now))) }
 {
     match lines.first() {
         Some(Line::Mesh { x, y, delay }) => {
@@ -116,7 +116,7 @@ fn tell_part<F: Fabric>(
 ) -> Result<(), AllocError>
     requires read { map said lines.now ≡ map (λ text. read_line text.now) texts.now }
     requires one { AllByRecursion (λ r. sets r ≡ None) (drop 1 (map said lines.now)) }
-    ensures { OnOk result (out.new.items ≡ out.old.items ++ told_from (begun (F.Fabric.meaning fabric.now)) (map (λ text. text.now) texts.now)) }
+    ensures { OnOk result (out.new.items ≡ out.old.items ++ told_from (begun (F.meaning fabric.now)) (map (λ text. text.now) texts.now)) }
 {
     let mut answers = answers_of(heap, fabric, lines)?.into_iter();
     for (text, line) in texts.iter().zip(lines) {
@@ -131,7 +131,7 @@ pub fn transcript_over<F: Fabric>(
     fabric: &F,
     script: &[u8],
 ) -> Result<Vec<u8>, AllocError>
-    ensures { IfOk result (λ v. v.items ≡ transcript_text (F.Fabric.meaning fabric.now) script.now) }
+    ensures { IfOk result (λ v. v.items ≡ transcript_text (F.meaning fabric.now) script.now) }
 {
     let texts = split(heap, script)?;
     let lines = read_lines(heap, &texts)?;

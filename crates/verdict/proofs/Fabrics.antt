@@ -10,8 +10,9 @@ use Rattle.records.specs.declared.head.HeadFault.{HeadFault}
 use Rattle.fabric.specs.Grid.{grid, grid_made, sizes_fit}
 use Rattle.fabric.specs.MeshLaws.{mesh_lawful}
 use Rattle.fabric.specs.Network.{Lawful, Network}
-use Rattle.listed.specs.Setting.{network, setting_read}
-use Rattle.listed.proofs.Networks.{set_lawful, then_read}
+use Rattle.listed.specs.Description.{network, description_read}
+use Rattle.refusals.proofs.Steps.{step_read}
+use Rattle.listed.proofs.Networks.{set_lawful}
 use Rattle.listed.proofs.Readings.{ahead}
 use Rattle.verdict.specs.Judged.{FileFabric}
 use Rattle.verdict.specs.Verdict.{file_part, head_part, kind_part, listed_part, mesh_part, mesh_sections}
@@ -42,12 +43,12 @@ module _ (file : List ℕ) (net : Network) (part : List ℕ) where
   mesh_laws : (o : Result Network ℕ) (rest : List ℕ) → ((made : Network) → o ≡ Ok made → Lawful 14 made) → mesh_part o rest ≡ Ok (net, part) → Lawfully net
   mesh_laws (Err n) rest laws is = cc
   mesh_laws (Ok made) rest laws is =
-      let (bytes, _, last) = then_read (mesh_sections rest) (λ x. Ok (made, x)) (net, part) is in
+      let (bytes, _, last) = step_read (mesh_sections rest) (λ x. Ok (made, x)) (net, part) is in
       (14, lit≤ tt, subst (Lawful 14) (first_same made net bytes part last) (laws made refl))
 
   listed_laws : listed_part file ≡ Ok (net, part) → Lawfully net
   listed_laws is =
-      let (p, read, last) = then_read (setting_read file) (λ p. Ok (network p.0, p.1)) (net, part) is in
+      let (p, read, last) = step_read (description_read file) (λ p. Ok (network p.0, p.1)) (net, part) is in
       (12, lit≤ tt, subst (Lawful 12) (first_same (network p.0) net p.1 part last) (set_lawful file p read))
 
   kind_laws : (kind : FabricKind) (p : FileHead × List ℕ) → kind_part kind file p ≡ Ok (net, part) → Lawfully net

@@ -3,7 +3,7 @@ use Rattle.std.proofs.Common.{◌≡◌, ℕ, Bool, true, false, cond, List, len
 use Rattle.std.specs.Prelude.{nat_lt}
 use Rattle.refusals.specs.declared.refusal.Counts.{Counts}
 use Rattle.fabric.specs.Network.{Network}
-use Rattle.listed.specs.Setting.{within}
+use Rattle.refusals.specs.Steps.{within}
 use Rattle.listed.specs.declared.faults.SetFault.{SetFault}
 use Rattle.jobs.specs.Jobs.{nothing}
 use Rattle.plan.specs.Loading.{load}

@@ -1,6 +1,6 @@
 // Judging a plan file: its own fabric and plan are made, its jobs loaded, and the verdict line written.
 ghost use Rattle.plan.specs.declared.fault.LoadFault.{LoadFault};
-ghost use Rattle.refusals.specs.Lines.{line_of, too_short};
+ghost use Rattle.refusals.specs.Lines.{line_text, too_short};
 ghost use Rattle.refusals.specs.Told.{buffer_told, plain, refusal_of};
 ghost use Rattle.refusals.specs.Written.{written};
 ghost use Rattle.refusals.specs.declared.refusal.Counts.{Counts};
@@ -25,7 +25,7 @@ pub const LONGEST_FILE: usize = 8192;
 
 // How many tasks and messages a new plan over the fabric takes from a job part.
 fn judged_on<F: Fabric>(fabric: &F, part: &[u8]) -> Result<Counts, FileFault>
-    ensures { result ≡ judged_on (F.Fabric.meaning fabric.now) part.now }
+    ensures { result ≡ judged_on (F.meaning fabric.now) part.now }
 {
     let mut plan = Plan::new(fabric);
     let counts = plan.load(part)?;
@@ -78,8 +78,8 @@ fn judge_file(file: &[u8]) -> Result<Counts, FileFault>
 // job part is refused is refused as the plan's promise says.
 #[tactic(auto, using(crate::proofs::Verdicts::file_clean, crate::proofs::Verdicts::file_refused))]
 pub fn judge(file: &[u8], out: &mut [u8]) -> Result<usize, BufferFault>
-    ensures answer { result ≡ (if nat_lt (length out.old) 64 then Err too_short else Ok (length (line_of (verdict_line (verdict_of file.now))))) }
-    ensures buffer { out.new ≡ (if nat_lt (length out.old) 64 then out.old else written out.old 0 (line_of (verdict_line (verdict_of file.now)))) }
+    ensures answer { result ≡ (if nat_lt (length out.old) 64 then Err too_short else Ok (length (line_text (verdict_line (verdict_of file.now))))) }
+    ensures buffer { out.new ≡ (if nat_lt (length out.old) 64 then out.old else written out.old 0 (line_text (verdict_line (verdict_of file.now)))) }
     ensures told { refusal_of buffer_told result ≡ (if nat_lt (length out.old) 64 then Some (plain 27) else None) }
     ensures bound { IfOk result (λ n. n ≤ 64) }
     ensures clean { (n : Counts) → verdict_of file.now ≡ Ok n → FileClean file.now n }

@@ -6,7 +6,7 @@ use Rattle.jobs.specs.declared.fault.MessageFault.TheVariants as message_fault
 use Rattle.jobs.specs.declared.fault.PlacingFault.TheVariants as placing
 use Rattle.jobs.specs.Jobs.{Setting, nothing}
 use Rattle.plan.specs.declared.fault.LoadFault.TheVariants as load_fault
-use Rattle.refusals.specs.Lines.{line_of, too_short}
+use Rattle.refusals.specs.Lines.{line_text, too_short}
 use Rattle.verdict.specs.Told.{verdict_line}
 use Rattle.verdict.specs.Verdict.{verdict_of}
 use Rattle.replay.specs.declared.calls.Answer.TheVariants as answer
@@ -22,7 +22,7 @@ pub data Case : Type 0 where
 abbrev pub Gives : Case → Type 0
 Gives (calling g asks told) = answers g nothing asks ≡ told
 Gives (routing g a b links) = g.network.route a b ≡ Some links
-Gives (judging file line) = line_of (verdict_line (verdict_of file)) ≡ line
+Gives (judging file line) = line_text (verdict_line (verdict_of file)) ≡ line
 
 -- all cases of a list
 abbrev pub Give : List Case → Type 0

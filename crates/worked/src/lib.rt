@@ -5,9 +5,7 @@ ghost use Rattle.worked.specs.Worked.{Worked};
 ghost use Rattle.std.specs.Prelude.{◌≡◌};
 
 // The definitions give the answers that were found by hand.
-pub fn worked_plans_stand() -> u8
-    ensures answer { result ≡ 0 }
+pub fn worked_plans_stand()
     ensures plans { Worked }
 {
-    0
 }

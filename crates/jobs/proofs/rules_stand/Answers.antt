@@ -1,6 +1,5 @@
-use Rattle.std.proofs.Common.{refl}
 use Rattle.jobs.proofs.Limits.{packet_holds, slack_formula, task_holds}
 use Rattle.jobs.proofs.rules_stand.Goals as goal
 
 pub returns : goal.returns
-returns c = record { answer = refl; tasks = task_holds; packets = packet_holds; slack = slack_formula }
+returns c = record { tasks = task_holds; packets = packet_holds; slack = slack_formula }

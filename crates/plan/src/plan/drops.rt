@@ -11,7 +11,7 @@ use super::Plan;
 use fabric::Fabric;
 use jobs::fault::DropFault;
 use jobs::message::names_task;
-use records::named::find;
+use records::search::index_of;
 
 impl<'f, F: Fabric> Plan<'f, F> {
     // Takes the task of this name out, unless a held message names it.
@@ -24,7 +24,7 @@ impl<'f, F: Fabric> Plan<'f, F> {
         ensures told_model { TaskDropped (jobs self.old) name result }
         ensures clean { Clean (setting self.new) (jobs self.new) }
     {
-        if find(self.tasks.held(), name).is_none() {
+        if index_of(self.tasks.held(), name).is_none() {
             return Err(DropFault::Unknown);
         }
         if names_task(self.messages.held(), name) {

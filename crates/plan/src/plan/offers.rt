@@ -23,7 +23,7 @@ use jobs::message::late_by;
 use jobs::task::first_task_meeting;
 use jobs::way::Way;
 use jobs::{message, task};
-use records::named::find;
+use records::search::index_of;
 use records::record::{Message, Task};
 use records::tables::Table;
 
@@ -46,7 +46,7 @@ impl<'f, F: Fabric> Plan<'f, F> {
 
     // What packets go by.
     pub(super) fn board(&self) -> Board<'_, F>
-        ensures over { setting_of F.Fabric.meaning result ≡ setting self.now }
+        ensures over { setting_of F.meaning result ≡ setting self.now }
         ensures tasks { result.tasks.now ≡ (jobs self.now).tasks }
     {
         Board {
@@ -60,7 +60,7 @@ impl<'f, F: Fabric> Plan<'f, F> {
         ensures { MatchResult result (λ _. TaskPast (setting self.now).network.nodes (jobs self.now) t.now) (λ e. (rest : Option TaskFaultOf) → task_checks (setting self.now).network.nodes (jobs self.now) t.now rest ≡ Some e) }
     {
         let held = self.tasks.held();
-        if t.name == 0 || find(held, t.name).is_some() {
+        if t.name == 0 || index_of(held, t.name).is_some() {
             return Err(TaskFault::Name);
         }
         if t.core as usize >= self.fabric.nodes() {
@@ -115,7 +115,7 @@ impl<'f, F: Fabric> Plan<'f, F> {
     fn message_ends(&self, m: &Message) -> Result<Ends, MessageFault>
         ensures { MatchResult result (λ p. EndsPast (jobs self.now) m.now p.source p.destination) (λ e. (rest : TaskOf → TaskOf → List ℕ → Option MessageFaultOf) → message_checks (setting self.now) (jobs self.now) m.now rest ≡ Some e) }
     {
-        if m.name == 0 || find(self.messages.held(), m.name).is_some() {
+        if m.name == 0 || index_of(self.messages.held(), m.name).is_some() {
             return Err(MessageFault::Name);
         }
         let ends = self.board().ends(m).ok_or(MessageFault::Ends)?;

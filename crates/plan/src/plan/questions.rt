@@ -11,7 +11,7 @@ use super::Plan;
 use fabric::Fabric;
 use jobs::fault::{DropFault, PlaceFault};
 use jobs::holder::core_holder;
-use records::named::pick;
+use records::search::named;
 
 impl<'f, F: Fabric> Plan<'f, F> {
     // The least slack of the held message of this name.
@@ -21,7 +21,7 @@ impl<'f, F: Fabric> Plan<'f, F> {
         ensures least { IfOk result (HeldSlack (setting self.now) (jobs self.now) name) }
         ensures told_model { SlackTold (setting self.now) (jobs self.now) name result }
     {
-        let m = pick(self.messages.held(), name).ok_or(DropFault::Unknown)?;
+        let m = named(self.messages.held(), name).ok_or(DropFault::Unknown)?;
         self.board().slack_of(&m).ok_or(DropFault::Unknown)
     }
 

@@ -1,6 +1,5 @@
-use Rattle.std.proofs.Common.{refl}
 use Rattle.replay.proofs.Promises.{promise}
 use Rattle.replay.proofs.promise_stands.Goals as goal
 
 pub returns : goal.returns
-returns c = record { answer = refl; promise = promise }
+returns c = record { promise = promise }

@@ -13,4 +13,4 @@ unfolding first euclid gcd first_from busy gap digits
 plans = (refl, (refl, (refl, (refl, (refl, (refl, (refl, (refl, (refl, (refl, (refl, (refl, (refl, (refl, (refl, (refl, (refl, (refl, (refl, tt)))))))))))))))))))
 
 pub returns : goal.returns
-returns c = record { answer = refl; plans = plans }
+returns c = record { plans = plans }

@@ -5,7 +5,7 @@ use Rattle.promise.specs.Canonical.{Canonical, ShortNames}
 use Rattle.promise.specs.Clean.{Clean}
 use Rattle.promise.proofs.Canonical.{message_less_canonical}
 use Rattle.promise.proofs.Drops.{message_dropped}
-use Rattle.records.proofs.Places.{spot_named}
+use Rattle.records.proofs.Places.{index_named}
 use Rattle.jobs.specs.Jobs.{message_name}
 use Rattle.promise.proofs.Lists.{without_in}
 use Rattle.promise.proofs.Tabled.{message_out}
@@ -38,10 +38,10 @@ invariant_of-self-clause-short g c =
     (record { tasks = p.short.tasks; messages = λ m i. p.short.messages m (without_in message_name c.args.name m (jobs p).messages i) })
 
 pub returns-in_err-ok_or-clause-told_model : goal.returns-in_err-ok_or-clause-told_model
-returns-in_err-ok_or-clause-told_model g c = message_dropped_of c.args.self.now c.args.name _ (search (rules, spot_named))
+returns-in_err-ok_or-clause-told_model g c = message_dropped_of c.args.self.now c.args.name _ (search (rules, index_named))
 
 pub returns-clause-told_model : goal.returns-clause-told_model
-returns-clause-told_model g c = message_dropped_of c.args.self.now c.args.name _ (search (rules, spot_named))
+returns-clause-told_model g c = message_dropped_of c.args.self.now c.args.name _ (search (rules, index_named))
 
 pub returns-in_err-ok_or-clause-clean : goal.returns-in_err-ok_or-clause-clean
 returns-in_err-ok_or-clause-clean g c = 
