@@ -1,4 +1,4 @@
--- Where the records of a section lie in its bytes. Assumes nothing.
+-- Where the records of a section lie in its bytes.
 use Rattle.std.proofs.Common.{◌≡◌, ℕ, ◌+◌, ◌*◌, ◌/◌, ◌<◌, ◌≤◌, le_refl, add-mul, one-mul, arith}
 use Rattle.std.proofs.lemmas.Nat.{div-add-mod', mul-le}
 

@@ -1,12 +1,13 @@
--- Where a name stands in a list of records. Assumes nothing.
+-- Where a name stands in a list of what has names.
 use Rattle.std.proofs.Common.{◌≡◌, ℕ, suc, ◌+◌, ◌<◌, ◌≤◌, Bool, true, false, not, cond, ◌&&◌, eqb, ltb, List, [], ◌∷◌, length, get_or, take, is_some, Some, None, Option, sym, refl, ap, ◌∙◌, subst, arith}
 use Rattle.std.proofs.Math.Numerals.{one-add}
 use Prim.Native.Nat.compare
 use Rattle.std.specs.Option.{option_map}
 use Rattle.std.specs.List.{insert, position, position_or_len, prefix_len, remove}
 use Rattle.std.proofs.lemmas.List.{length-take-le}
+use Rattle.std.proofs.lemmas.List.Sums.{prefix_len-le-length}
 use Rattle.std.proofs.lemmas.Bool.{cond-true, cond-false, cond_both, lt-ltb, ltb-true, ltb-false, eqb-false, and_parts, and_from}
-use Rattle.records.specs.Named.{named, rank, index_of, add, without, ascends}
+use Rattle.records.specs.Named.{named, index_of, add, without, ascends}
 
 -- a test for a place, one further on
 further : (b : Bool) (k : ℕ) → option_map suc (cond b (Some k) None) ≡ cond b (Some (suc k)) None
@@ -14,7 +15,7 @@ further true k = refl
 further false k = refl
 
 module _ {X : Type 0} (f : X → ℕ) (n : ℕ) where
-  -- where the first record of a name stands is the first place whose record has it
+  -- the first of a name stands at the first place that has it
   pub index_is : (xs : List X) → index_of f n xs ≡ position (λ x. eqb (f x) n) xs
   index_is [] = refl
   index_is (x ∷ xs) =
@@ -22,13 +23,6 @@ module _ {X : Type 0} (f : X → ℕ) (n : ℕ) where
       let e : ltb (suc at) (suc (length xs)) ≡ ltb at (length xs) = simp compare.suc-suc in
       elim (eqb (f x) n) as (λ b. cond b (Some 0) (option_map suc (index_of f n xs)) ≡ cond (ltb (cond (not b) (1 + at) 0) (suc (length xs))) (Some (cond (not b) (1 + at) 0)) None)
       [ true ↦ sym (cond-true (ltb 0 (suc (length xs))) (Some 0) None (lt-ltb 0 (suc (length xs)) (omega arith))) | false ↦ rw (one-add, e) (ap (option_map suc) (index_is xs) ∙ further (ltb at (length xs)) at) ]
-
-  -- the place of a name is past those in front that are below it
-  pub rank_is : (xs : List X) → rank f n xs ≡ prefix_len (λ x. ltb (f x) n) xs
-  rank_is [] = refl
-  rank_is (x ∷ xs) =
-      elim (ltb (f x) n) as (λ b. cond b (suc (rank f n xs)) 0 ≡ cond b (1 + prefix_len (λ y. ltb (f y) n) xs) 0)
-      [ true ↦ rw one-add (ap suc (rank_is xs)) | false ↦ refl ]
 
 -- it is found either way
 pub some_on : (o : Option ℕ) → is_some (option_map suc o) ≡ is_some o
@@ -61,19 +55,14 @@ above : (a b : ℕ) → b ≤ a → (a ≡ b → ⊥) → b < a
 above a b h ne = omega arith
 
 module _ {X : Type 0} (f : X → ℕ) where
-  -- a place is at most the length
-  pub rank_within : (n : ℕ) (xs : List X) → rank f n xs ≤ length xs
-  rank_within n [] = omega arith
-  rank_within n (x ∷ xs) = let h = rank_within n xs in cond_both (ltb (f x) n) (suc (rank f n xs)) 0 (λ k. k ≤ suc (length xs)) (λ _. omega arith) (λ _. omega arith)
-
-  -- to put a record in at its place is to add it
-  pub add_is : (x : X) (xs : List X) → insert xs (rank f (f x) xs) x ≡ add f x xs
+  -- to put one in past those below its name is to add it
+  pub add_is : (x : X) (xs : List X) → insert xs (prefix_len (λ y. ltb (f y) (f x)) xs) x ≡ add f x xs
   add_is x [] = refl
   add_is x (y ∷ ys) =
-      elim (ltb (f y) (f x)) as (λ b. insert (y ∷ ys) (cond b (suc (rank f (f x) ys)) 0) x ≡ cond b (y ∷ add f x ys) (x ∷ y ∷ ys))
-      [ true ↦ ap (λ l. y ∷ l) (add_is x ys) | false ↦ refl ]
+      elim (ltb (f y) (f x)) as (λ b. insert (y ∷ ys) (cond b (1 + prefix_len (λ z. ltb (f z) (f x)) ys) 0) x ≡ cond b (y ∷ add f x ys) (x ∷ y ∷ ys))
+      [ true ↦ rw one-add (ap (λ l. y ∷ l) (add_is x ys)) | false ↦ refl ]
 
-  -- the record at an index is the first of the name
+  -- what stands at the index is the first of the name
   pub named_at : (n : ℕ) (xs : List X) (i : ℕ) (d : X) → index_of f n xs ≡ Some i → named f n xs ≡ Some (get_or xs i d)
   named_at n [] i d e = cc
   named_at n (x ∷ xs) i d e =
@@ -83,7 +72,7 @@ module _ {X : Type 0} (f : X → ℕ) where
             subst (λ m. named f n xs ≡ Some (get_or (x ∷ xs) m d)) (sym is) (named_at n xs k d at)
       ]) e
 
-  -- without an index there is no record of the name
+  -- without an index nothing has the name
   pub named_none : (n : ℕ) (xs : List X) → index_of f n xs ≡ None → named f n xs ≡ None
   named_none n [] e = refl
   named_none n (x ∷ xs) e =
@@ -101,7 +90,7 @@ module _ {X : Type 0} (f : X → ℕ) where
             (omega arith, subst (λ m. remove (x ∷ xs) m ≡ x ∷ without f n xs) (sym is) (ap (λ l. x ∷ l) h.1))
       ]) e
 
-  -- one record more
+  -- one more
   pub length_add : (x : X) (xs : List X) → length (add f x xs) ≡ suc (length xs)
   length_add x [] = refl
   length_add x (y ∷ ys) =
@@ -141,6 +130,6 @@ module _ {X : Type 0} (f : X → ℕ) where
       (λ t. and_from (ltb m (f x)) (ltb (f x) (f y) && ascends f (f y) ys) (lt-ltb m (f x) h)
       (and_from (ltb (f x) (f y)) (ascends f (f y) ys) (lt-ltb (f x) (f y) (above (f y) (f x) (ltb-false (f y) (f x) t) (eqb-false (f y) (f x) q.0))) p.1))
 
-  -- a place among the first k is at most k
-  pub rank_held : (n k : ℕ) (xs : List X) (p : ℕ) → k ≤ length xs → p ≡ rank f n (take k xs) → p ≤ k
-  rank_held n k xs p h at = omega (arith, rank_within n (take k xs), length-take-le k xs h)
+  -- among the first k at most k are below a name
+  pub below_held : (n k : ℕ) (xs : List X) (p : ℕ) → k ≤ length xs → p ≡ prefix_len (λ x. ltb (f x) n) (take k xs) → p ≤ k
+  below_held n k xs p h at = omega (arith, prefix_len-le-length (λ x. ltb (f x) n) (take k xs), length-take-le k xs h)

@@ -1,11 +1,12 @@
--- The records of a section as a list. Assumes nothing.
+-- The records of a section as a list.
 use Rattle.std.proofs.Common.{◌≡◌, ℕ, zero, suc, ◌+◌, ◌/◌, ◌<◌, not, cond, List, [], ◌∷◌, length, get_or, is_some, Some, None, Ok, Err, Option, Result, sym, refl, ap, ◌∙◌, subst, add-zero, zero-add, arith}
 use Rattle.std.specs.List.{find, range_with_len}
-use Rattle.records.specs.Sections.{record_at, in_front, read_from, section_records, unread_place}
+use Rattle.std.specs.Result.{result_err}
+use Rattle.records.specs.Sections.{record_at, in_front, read_from, section_records}
 
 module _ {R : Type 0} where
   -- a record in front adds no fault
-  front_unread : (k : ℕ) (x : R) (r : Result (List R) ℕ) → unread_place (in_front k (Some x) r) ≡ unread_place r
+  front_unread : (k : ℕ) (x : R) (r : Result (List R) ℕ) → result_err (in_front k (Some x) r) ≡ result_err r
   front_unread k x (Ok xs) = refl
   front_unread k x (Err j) = refl
 
@@ -17,11 +18,11 @@ module _ {R : Type 0} where
 
 module _ {R : Type 0} (at : ℕ → Option R) where
   -- the first fault is the first place without a record
-  pub unread_is : (k m : ℕ) → unread_place (read_from at k m) ≡ find (λ i. not (is_some (at i))) (range_with_len k m)
+  pub unread_is : (k m : ℕ) → result_err (read_from at k m) ≡ find (λ i. not (is_some (at i))) (range_with_len k m)
   unread_is k zero = refl
   unread_is k (suc m) = go (at k) (unread_is (k + 1) m)
     where
-      go : (o : Option R) → unread_place (read_from at (k + 1) m) ≡ find (λ i. not (is_some (at i))) (range_with_len (k + 1) m) → unread_place (in_front k o (read_from at (k + 1) m)) ≡ cond (not (is_some o)) (Some k) (find (λ i. not (is_some (at i))) (range_with_len (k + 1) m))
+      go : (o : Option R) → result_err (read_from at (k + 1) m) ≡ find (λ i. not (is_some (at i))) (range_with_len (k + 1) m) → result_err (in_front k o (read_from at (k + 1) m)) ≡ cond (not (is_some o)) (Some k) (find (λ i. not (is_some (at i))) (range_with_len (k + 1) m))
       go None rest = refl
       go (Some x) rest = front_unread k x (read_from at (k + 1) m) ∙ rest
 

@@ -1,4 +1,4 @@
--- A record put into a part of a table, or taken out, by one turn from its place on. Assumes nothing.
+-- A record put into a part of a table, or taken out, by one turn from its place on.
 use Rattle.std.proofs.Common.{◌≡◌, ℕ, suc, ◌+◌, ◌-◌, ◌<◌, ◌≤◌, List, [], ◌∷◌, ◌++◌, length, take, drop, set, sym, ap, ◌∙◌, add-one, arith}
 use Rattle.std.specs.List.{insert, remove}
 use borrow.Rule.Slice.PartMut.{put_mid}

@@ -1,4 +1,4 @@
--- Lists of bytes: big-endian numbers, and parts of a list. Assumes nothing.
+-- Meaning. Lists of bytes: big-endian numbers, and parts of a list.
 --   Bytes      each element is a byte
 --   be         the number that some bytes write
 --   bytes_of   the bytes that write a number

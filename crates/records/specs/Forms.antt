@@ -1,4 +1,4 @@
--- The byte form of each record kind, and the record that bytes stand for. Assumes nothing.
+-- Meaning. The byte form of each record kind, and the record that bytes stand for.
 -- A field of more than one byte is big-endian. Bytes with a wrong zero byte or kind are no record.
 use Rattle.std.specs.Prelude.{ℕ, cond, ◌&&◌, List, [], ◌∷◌, Some, None, Option, ◌==◌, nat_lt, slice_index}
 use Rattle.records.specs.Bytes.{be, bytes_of, listing}

@@ -1,4 +1,4 @@
--- The head of a plan file: version, kind, x, y, delay and a zero, in six bytes, and what follows them. Assumes nothing.
+-- Meaning. The head of a plan file: version, kind, x, y, delay and a zero, in six bytes, and what follows them.
 --   kind_read    the kind of fabric that a byte stands for
 --   head_read    what reading the head answers
 --   head_number  the number of each fault

@@ -1,4 +1,4 @@
--- The kinds of messages. Assumes nothing.
+-- Meaning. The kinds of messages.
 use Rattle.std.specs.Prelude.{ℕ, cond, Ok, Err, Result, ◌==◌}
 use Rattle.records.specs.declared.kind.Kind.{Kind}
 use Rattle.records.specs.declared.kind.Kind.TheVariants.{Precedence, NextPeriod}

@@ -1,6 +1,6 @@
 -- Rule. Lists of what has names, by a function to the name.
 --   named, index_of   the first of a name, and where it stands
---   rank, add         how many stand before a name, and the list with one more there
+--   add               the list with one more, where its name goes
 --   without           the list without the first of a name
 --   ascends           the names ascend
 use Rattle.std.specs.Prelude.{ℕ, suc, Bool, true, cond, ◌&&◌, List, [], ◌∷◌, Some, None, Option, ◌==◌, nat_lt}
@@ -15,11 +15,6 @@ named f n = find (λ x. f x == n)
 abbrev pub index_of : {X : Type 0} → (X → ℕ) → ℕ → List X → Option ℕ
 index_of f n [] = None
 index_of f n (x ∷ xs) = cond (f x == n) (Some 0) (option_map suc (index_of f n xs))
-
--- how many stand before the first whose name is not below n
-abbrev pub rank : {X : Type 0} → (X → ℕ) → ℕ → List X → ℕ
-rank f n [] = 0
-rank f n (x ∷ xs) = cond (nat_lt (f x) n) (suc (rank f n xs)) 0
 
 -- one more, before the first whose name is not below its own
 abbrev pub add : {X : Type 0} → (X → ℕ) → X → List X → List X

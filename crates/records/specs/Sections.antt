@@ -47,11 +47,6 @@ read_from at k (suc m) = in_front k (at k) (read_from at (k + 1) m)
 abbrev pub section_records : {R : Type 0} → (List ℕ → Option R) → ℕ → List ℕ → Result (List R) ℕ
 section_records parsed size bs = read_from (record_at parsed size bs) 0 (length bs / size)
 
--- the place of the first record that is none
-abbrev pub unread_place : {R : Type 0} → Result (List R) ℕ → Option ℕ
-unread_place (Ok xs) = None
-unread_place (Err k) = Some k
-
 -- a section as it is written: the count in two bytes, then the records
 abbrev pub section_bytes : {R : Type 0} → (R → List ℕ) → List R → List ℕ
 section_bytes form xs = bytes_of 2 (length xs) (flat_map form xs)

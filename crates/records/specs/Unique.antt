@@ -1,4 +1,4 @@
--- A record's bytes are the only ones that read as it. Assumes nothing.
+-- Working. A record's bytes are the only ones that read as it: what the record kinds' own laws cite.
 use Rattle.std.specs.Prelude.{◌≡◌, ℕ, zero, suc, ◌+◌, ◌*◌, ◌/◌, ◌%◌, Bool, true, false, cond, List, ◌∷◌, ◌++◌, length, drop, Some, None, slice_index, slice_index_or, refl}
 use Rattle.std.proofs.Common.{ap, ◌∙◌, add-zero, arith, drop-cons}
 use Rattle.std.proofs.lemmas.List.{drop_all}

@@ -1,7 +1,8 @@
 //! Sections of records, read from lent bytes and written into them.
 ghost use Rattle.std.specs.List.{flat_map};
 ghost use Rattle.std.specs.Prelude.{◌≡◌, ◌*◌, ◌/◌, length, Ok, Err, MatchResult};
-ghost use Rattle.records.specs.Sections.{count_of, cut_of, length_written, record_at, section_records, section_written, unread_place};
+ghost use Rattle.records.specs.Sections.{count_of, cut_of, length_written, record_at, section_records, section_written};
+ghost use Rattle.std.specs.Result.{result_err};
 
 use crate::record::Record;
 use std::marker::PhantomData;
@@ -48,7 +49,7 @@ impl<'a, R: Record> Section<'a, R> {
 impl<'a, R: Record + Drop> Section<'a, R> {
     /// The index of the first record whose bytes are no record of the kind.
     pub fn unread(&self) -> Option<usize>
-        ensures { result ≡ unread_place (section_records R.parsed R.SIZE self.now.bytes.now) }
+        ensures { result ≡ result_err (section_records R.parsed R.SIZE self.now.bytes.now) }
     {
         (0..self.count()).find(|i| self.get(*i).is_none())
     }

@@ -1,7 +1,7 @@
 //! Tables of what has names, in ascending names: the first so many entries are held, and the rest are free.
 ghost use Rattle.std.specs.Prelude.{◌≡◌, ◌+◌, ◌-◌, ◌<◌, ◌≤◌, if◌then◌else◌, ◌++◌, [], ◌∷◌, length, take, drop, nat_le, nat_lt, is_ok, None, IfSome, MatchOption, MatchResult};
-ghost use Rattle.std.specs.List.{insert, remove};
-ghost use Rattle.records.specs.Named.{named, rank, add, without};
+ghost use Rattle.std.specs.List.{insert, prefix_len, remove};
+ghost use Rattle.records.specs.Named.{named, add, without};
 
 use crate::named::Named;
 use crate::search::index_of;
@@ -111,7 +111,7 @@ pub fn remove<R: Named + Copy>(table: &mut [R], count: usize, name: u16) -> Opti
 
 // How many stand before the first whose name is not below this one: a walk as in `index_of`, with no premise that names ascend.
 fn rank_of<R: Named>(held: &[R], name: u16) -> usize
-    ensures { result ≡ rank R.label name held.now }
+    ensures { result ≡ prefix_len (λ x. nat_lt (R.label x) name) held.now }
 {
     held.iter().take_while(|x| x.name() < name).count()
 }
