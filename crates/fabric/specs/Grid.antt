@@ -1,5 +1,6 @@
--- A mesh of `w` columns and `h` rows: its nodes, links and routes.
--- node, toward, grid_link: the links. grid_path, grid_route: the routes, along x first. grid: the mesh. sizes_fit, grid_made: which meshes there are.
+-- Meaning. A mesh of `w` columns and `h` rows: its nodes, links and routes.
+-- node, toward, grid_link: the links. grid_path, grid_route: the routes, along x first. grid: the mesh.
+-- sizes_fit, grid_made: which meshes there are.
 use Rattle.std.specs.Prelude.{ℕ, zero, suc, ◌+◌, ◌-◌, ◌*◌, ◌/◌, ◌%◌, Bool, cond, ◌&&◌, List, ◌++◌, map, Some, None, Ok, Err, Option, Result, nat_le, nat_lt}
 use Rattle.std.specs.List.{range_with_len}
 use Rattle.fabric.specs.Network.{Network}

@@ -1,4 +1,4 @@
--- The proof that a mesh keeps the laws of a fabric, `mesh_lawful`, which the mesh's own `lawful` gives: no definition stands here that a contract cites.
+-- Working. The proof that a mesh keeps the laws of a fabric, `mesh_lawful`: the mesh's own `lawful` cites it.
 use Rattle.std.specs.Prelude.{◌≡◌, ℕ, zero, suc, ◌+◌, ◌-◌, ◌*◌, ◌/◌, ◌%◌, ◌<◌, ◌≤◌, Bool, true, false, cond, ◌&&◌, ltb, List, [], ◌∷◌, ◌++◌, map, length, Some, None, Option, ◌≢◌, nat_lt, slice_index, refl}
 use Rattle.std.proofs.Common.{sym, ap, subst, ◌∙◌, ⊎_elim, arith, add-zero, length-append}
 use Rattle.std.proofs.Math.Nat.{sub_self, mul-lt-mul_of_pos_left}

@@ -1,4 +1,4 @@
--- What is promised of the routes of every mesh.
+-- Meaning. What is promised of the routes of every mesh.
 -- apart, AlongX: words. Straight: what holds of one route. MeshRoutes: every two nodes of every mesh have such a route.
 use Rattle.std.specs.Prelude.{◌≡◌, ℕ, ◌+◌, ◌-◌, ◌*◌, ◌/◌, ◌%◌, ◌<◌, ◌≤◌, true, List, length, Some, slice_index}
 use Rattle.fabric.specs.Grid.{grid, sizes_fit}
@@ -22,4 +22,6 @@ pub record Straight (w a b : ℕ) (r : List ℕ) : Type 0 where
 
 -- every two nodes of every mesh within the limits have such a route
 abbrev pub MeshRoutes : Type 0
-MeshRoutes = (w h d : ℕ) → sizes_fit w h d ≡ true → (a b : ℕ) → a < w * h → b < w * h → (r : List ℕ) × ((grid w h d).route a b ≡ Some r) × Straight w a b r
+MeshRoutes =
+    (w h d : ℕ) → sizes_fit w h d ≡ true → (a b : ℕ) → a < w * h → b < w * h
+    → (r : List ℕ) × ((grid w h d).route a b ≡ Some r) × Straight w a b r

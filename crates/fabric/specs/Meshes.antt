@@ -1,4 +1,4 @@
--- What a mesh and its making mean, and the columns, rows and directions of its nodes.
+-- Rule. What a mesh and its making mean, and the columns, rows and directions of its nodes.
 use Rattle.std.specs.Prelude.{◌≡◌, ℕ, ◌*◌, ◌/◌, ◌%◌, ◌<◌, Ok, Err, Result}
 use Rattle.fabric.specs.Network.{Network}
 use Rattle.fabric.specs.Grid.{grid}

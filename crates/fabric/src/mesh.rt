@@ -163,5 +163,4 @@ pub fn mesh_routes_stand()
     ensures routes { MeshRoutes }
     ensures there { (grid 3 3 0).route 0 5 ≡ Some (0 ∷ 4 ∷ 10 ∷ []) }
     ensures back { (grid 3 3 0).route 5 0 ≡ Some (21 ∷ 17 ∷ 15 ∷ []) }
-{
-}
+{}

@@ -1,4 +1,4 @@
--- The first instant that lies in two holds.
+-- Meaning: the first instant that lies in two holds. Rule: the search that finds it.
 use Rattle.std.specs.Prelude.{ℕ, ◌+◌, ◌*◌, ◌<◌, ◌≤◌, max, Bool, ◌&&◌, Some, None, Option}
 use Rattle.holds.specs.Span.{Span, Proper, Busy, Meet, busy}
 use Rattle.holds.specs.Search.{first_from}

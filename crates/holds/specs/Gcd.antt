@@ -1,4 +1,4 @@
--- The greatest common divisor, by Euclid's algorithm, and what it is.
+-- Rule. The greatest common divisor, by Euclid's algorithm, and what it is.
 use Rattle.std.specs.Prelude.{◌≡◌, ℕ, zero, suc, ◌*◌, ◌/◌, ◌%◌}
 use Rattle.std.specs.Int.{◌∣◌, IsGcd}
 

@@ -1,4 +1,4 @@
--- The numbers of the holds and deliveries that the code makes, and which numbers it takes.
+-- Rule. The numbers of the holds and deliveries that the code makes, and which numbers it takes.
 use Rattle.std.specs.Prelude.{ℕ, cond, ◌&&◌, Some, None, Option, nat_le, nat_lt}
 use Rattle.holds.specs.declared.deliveries.Deliveries.{Deliveries}
 use Rattle.holds.specs.declared.hold.Hold.{Hold}
@@ -22,4 +22,6 @@ spanned s p w =
 -- the deliveries of these numbers, where they are within the limits
 abbrev pub flowing : ℕ → ℕ → ℕ → Option Flow
 flowing a d p =
-    cond (nat_le a latest && (nat_le d latest && (nat_lt 0 p && nat_le p longest))) (Some (record { arrival = a; due = d; period = p })) None
+    cond (nat_le a latest && (nat_le d latest && (nat_lt 0 p && nat_le p longest)))
+    (Some (record { arrival = a; due = d; period = p }))
+    None

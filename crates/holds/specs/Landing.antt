@@ -1,4 +1,4 @@
--- What a walk of the code counts.
+-- Working. What a walk of the code counts.
 use Rattle.std.specs.Prelude.{ℕ}
 use Rattle.holds.specs.Walk.{Carried}
 use Rattle.holds.specs.declared.landing.Walk.{Walk}

@@ -1,4 +1,4 @@
--- The limits of holds and deliveries.
+-- Rule. The limits of holds and deliveries.
 use Rattle.std.specs.Prelude.{ℕ, ◌*◌, ◌^◌}
 
 -- the latest first start, arrival and due instant

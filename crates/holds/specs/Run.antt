@@ -1,4 +1,4 @@
--- Which run holds an instant.
+-- Meaning: which run holds an instant. Rule: that run, by division.
 use Rattle.std.specs.Prelude.{◌≡◌, ℕ, ◌-◌, ◌/◌, ◌%◌, cond, ◌&&◌, Some, None, Option, nat_le, nat_lt}
 use Rattle.holds.specs.Span.{Span, RunHolds, Busy}
 

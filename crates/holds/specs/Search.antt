@@ -1,4 +1,4 @@
--- The first number that passes a test, over a stretch of numbers.
+-- Rule. The first number that passes a test, over a stretch of numbers.
 use Rattle.std.specs.Prelude.{ℕ, zero, suc, ◌+◌, Bool, true, false, Some, None, Option}
 
 -- of the numbers from n on, at most `fuel` of them

@@ -1,4 +1,4 @@
--- Which run of a reader reads a packet, and the least time that is left for it.
+-- Meaning: which run of a reader reads a packet, and the least time that is left for it. Rule: the formula.
 -- The runs of the reader start at start + j * period, j from 0; its width does not matter here.
 use Rattle.std.specs.Prelude.{◌≡◌, ℕ, ◌+◌, ◌*◌, ◌%◌, ◌<◌, ◌≤◌, ℤ, pos, ◌-ℤ◌, ◌≤ℤ◌}
 use Rattle.std.specs.Int.{◌∣◌}

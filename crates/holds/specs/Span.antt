@@ -1,5 +1,6 @@
--- Periodic holds of one place, by the instants that they hold. Time has no end. Assumes nothing.
--- Span: the numbers of a hold. Busy: some run holds an instant. Meet: some instant lies in both. Clear: the pair test.
+-- Meaning: periodic holds of one place, by the instants that they hold; time has no end. Rule: the tests of an instant and of a pair.
+-- Span: the numbers of a hold. RunHolds, Busy: a run holds an instant, some run does. Meet: some instant lies in both.
+-- busy: the test of an instant. Clear: the pair test.
 use Rattle.std.specs.Prelude.{◌≡◌, ℕ, ◌+◌, ◌-◌, ◌*◌, ◌%◌, ◌<◌, ◌≤◌, Bool, ◌&&◌, ◌↔◌, pos, ◌-ℤ◌, nat_le, nat_lt}
 use Rattle.std.specs.Int.{int_rem_euclid}
 use Rattle.holds.specs.Gcd.{gcd}

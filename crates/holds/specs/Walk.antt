@@ -1,4 +1,4 @@
--- A walk by equal steps around a circle, and the first run of a hold that ends after an instant.
+-- Working. A walk by equal steps around a circle, and the first run of a hold that ends after an instant.
 use Rattle.std.specs.Prelude.{◌≡◌, ℕ, ◌+◌, ◌*◌, ◌%◌, ◌<◌, ◌≤◌, Some, None, Option}
 use Rattle.holds.specs.Span.{Span}
 

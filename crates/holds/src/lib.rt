@@ -40,8 +40,7 @@ pub fn formulas_stand()
     ensures read { AlwaysRead }
     ensures slack { SlackIsLeast }
     ensures whole { LeastWhole }
-{
-}
+{}
 
 #[cfg(test)]
 mod tests {

@@ -1,4 +1,4 @@
--- The search for a route among the records, and what the found record answers. Assumes nothing.
+-- The search for a route among the records, and what the found record answers.
 use Rattle.std.proofs.Common.{◌≡◌, ℕ, zero, suc, ◌+◌, ◌<◌, Bool, true, false, cond, ◌&&◌, eqb, List, Some, None, Option, refl, add-zero, sym, ap, ◌∙◌, ⊎_elim, arith}
 use Rattle.std.specs.Bool.{then_some}
 use Rattle.std.specs.Option.{option_map}

@@ -1,4 +1,4 @@
--- Halving the places where a pair's record may stand, among records that ascend. Assumes nothing.
+-- Halving the places where a pair's record may stand, among records that ascend.
 use Rattle.std.proofs.Common.{◌≡◌, ℕ, ◌+◌, ◌<◌, ◌≤◌, List, Some, None, Less, Equal, Greater, Ordering, nat_cmp, sym, refl, ap, ◌∙◌, subst, ◌⊎◌, inl, inr, ⊎_elim, arith}
 use Rattle.std.proofs.lemmas.Bool.{cases_lt}
 use Rattle.std.proofs.lemmas.Cmp.{ranked}

@@ -22,7 +22,7 @@ use Rattle.listed.specs.declared.faults.SectionFault.{SectionFault}
 use Rattle.listed.specs.declared.faults.SectionFault.TheVariants.{Short, Many}
 use Rattle.listed.specs.declared.faults.SetFault.{SetFault}
 use Rattle.listed.specs.declared.faults.SetFault.TheVariants.{Head, Links, Link, Routes, Route, Chain, Order}
-use Rattle.listed.specs.Records.{link_count, link_at, link_good, route_count, route_at, route_prior, route_shape, route_names, route_leads, route_above, listed}
+use Rattle.listed.specs.Records.{link_count, link_at, link_good, route_count, route_at, route_prior, route_fits, route_leads, route_above, listed}
 
 -- node count, hop delay, and the bytes of the links and of the routes
 pub record Description : Type 0 where
@@ -80,7 +80,7 @@ link_fault n ls l = cond (link_good n (link_at ls l)) None (Some (Link l))
 abbrev pub record_fault : ℕ → List ℕ → Option RouteRecord → ℕ → Option RouteRecord → Option SetFault
 record_fault n ls prior k None = Some (Route k)
 record_fault n ls prior k (Some r) =
-    cond (route_shape n r && route_names (link_count ls) r)
+    cond (route_fits n ls r)
     (cond (route_leads ls r) (cond (route_above prior r) None (Some (Order k))) (Some (Chain k)))
     (Some (Route k))
 

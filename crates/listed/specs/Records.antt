@@ -1,4 +1,4 @@
--- The link and route records of a listed fabric, which of them are good, and the network that they mean. Assumes nothing.
+-- Meaning. The link and route records of a listed fabric, which of them are good, and the network that they mean.
 --   link_at, route_at         the records that stand in the bytes of a section
 --   link_good                 what a link must be
 --   route_shape, route_names  what the fields and the link numbers of a route must be
@@ -78,6 +78,10 @@ abbrev pub once_good : List ℕ → Bool
 once_good [] = true
 once_good (l ∷ rest) = not (member l rest) && once_good rest
 
+-- a route of n nodes and the links: its fields and its numbers are such
+abbrev pub route_fits : ℕ → List ℕ → Route → Bool
+route_fits n ls r = route_shape n r && route_names (link_count ls) r
+
 -- its links are a chain from its first node to its second, and none stands twice
 abbrev pub route_leads : List ℕ → Route → Bool
 route_leads ls r = chain_good ls r.from (route_links r) r.to && once_good (route_links r)
@@ -92,6 +96,14 @@ abbrev pub route_good : ℕ → List ℕ → Option Route → Option Route → B
 route_good n ls prior None = false
 route_good n ls prior (Some r) =
     route_shape n r && (route_names (link_count ls) r && (route_leads ls r && route_above prior r))
+
+-- each link of n nodes is good
+abbrev pub LinksGood : ℕ → List ℕ → Type 0
+LinksGood n ls = (l : ℕ) → l < link_count ls → link_good n (link_at ls l) ≡ true
+
+-- each route is good, over the links
+abbrev pub RoutesGood : ℕ → List ℕ → List ℕ → Type 0
+RoutesGood n ls rs = (k : ℕ) → k < route_count rs → route_good n ls (route_prior rs k) (route_at rs k) ≡ true
 
 -- the links of a record if it goes from a to b, else what is found further on
 abbrev pub pick : Option Route → ℕ → ℕ → Option (List ℕ) → Option (List ℕ)

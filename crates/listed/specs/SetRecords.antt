@@ -11,9 +11,11 @@ pub record OfRecords (s : Description) : Type 0 where
   -- each place of the links has a record, and the link of that number goes between its nodes
   pub linked : (l : ℕ) → l < link_count s.links → (x : Link) × (link_at s.links l ≡ Some x) × ((network s).link l ≡ Some (x.from, x.to))
   -- each place of the routes has a record, and the route of its pair of nodes has its links
-  pub routed : (k : ℕ) → k < route_count s.routes → (r : Route) × (route_at s.routes k ≡ Some r) × ((network s).route r.from r.to ≡ Some (route_links r))
+  pub routed : (k : ℕ) → k < route_count s.routes
+      → (r : Route) × (route_at s.routes k ≡ Some r) × ((network s).route r.from r.to ≡ Some (route_links r))
   -- two different nodes that no record names have no route
-  pub others : (a b : ℕ) → (a ≢ b) → ((k : ℕ) (r : Route) → route_at s.routes k ≡ Some r → r.from ≡ a → r.to ≢ b) → (network s).route a b ≡ None
+  pub others : (a b : ℕ) → (a ≢ b) → ((k : ℕ) (r : Route) → route_at s.routes k ≡ Some r → r.from ≡ a → r.to ≢ b)
+      → (network s).route a b ≡ None
 
 -- what a file gives is of its records
 abbrev pub SetRecords : Type 0

@@ -1,4 +1,4 @@
--- The proof that good records make a lawful network, which the fabric's ghost member needs. Assumes nothing.
+-- Working. The proof that good records make a lawful network, `listed_lawful`: the fabric's own `lawful` cites it.
 use Rattle.std.specs.Prelude.{◌≡◌, ℕ, zero, suc, ◌+◌, ◌/◌, ◌<◌, ◌≤◌, Bool, true, false, cond, not, ◌&&◌, ◌||◌, ◌⊎◌, List, [], ◌∷◌, length, Some, None, Option, ◌==◌, ◌≢◌, nat_eq, nat_le, nat_lt, slice_index, refl}
 use Rattle.std.proofs.Common.{sym, ap, subst, ◌∙◌, inl, inr, ⊎_elim, arith, length-take}
 use Rattle.std.proofs.lemmas.Bool.{lt-ltb, ltb-true, leb-true, eqb-true, eqb-false, eq-eqb, cases_Bool, and_parts, and_from, cond-true, cond-false, not-true, both_ways}

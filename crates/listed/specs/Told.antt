@@ -1,4 +1,4 @@
--- Section, record and refusal of each fault of setting a listed fabric. Assumes nothing.
+-- Rule. Section, record and refusal of each fault of setting a listed fabric.
 use Rattle.std.specs.Prelude.{ℕ}
 use Rattle.records.specs.Head.{head_number}
 use Rattle.refusals.specs.Told.{plain, told}

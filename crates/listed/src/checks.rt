@@ -1,6 +1,6 @@
-// The checks of link and route records: each finds the first record with a fault.
-ghost use Rattle.std.specs.Prelude.{◌≡◌, ◌&&◌, true, false, MatchOption};
-ghost use Rattle.listed.specs.Records.{link_good, link_count, chain_good, once_good, all_below, route_shape, route_names, route_links, route_above, route_prior};
+//! The checks of link and route records: each finds the first record with a fault.
+ghost use Rattle.std.specs.Prelude.{◌≡◌, is_some, IfSome};
+ghost use Rattle.listed.specs.Records.{link_good, chain_good, once_good, all_below, route_fits, route_links, route_above, route_prior};
 ghost use Rattle.listed.specs.Description.{links_fault, link_fault, route_fault, routes_fault};
 ghost use Rattle.refusals.specs.Told.{checked};
 
@@ -35,7 +35,8 @@ impl Links<'_> {
     // The link numbers of a route with two different nodes, 1 to 12 numbers that are those of links, and zeros in the places
     // behind them.
     fn numbers<'r>(&self, route: &'r Route) -> Option<&'r [u8]>
-        ensures { let fits = route_shape self.now.nodes route.now && route_names (link_count self.now.section.bytes.now) route.now in MatchOption result (fits ≡ false) (λ ns. (fits ≡ true) × (ns.now ≡ route_links route.now)) }
+        ensures fits { is_some result ≡ route_fits self.now.nodes self.now.section.bytes.now route.now }
+        ensures numbers { IfSome result (λ ns. ns.now ≡ route_links route.now) }
     {
         let (numbers, unused) = route.links.split_at_checked(route.length as usize)?;
         let apart = route.from < self.nodes && route.to < self.nodes && route.from != route.to;

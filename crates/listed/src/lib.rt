@@ -1,19 +1,20 @@
 //! A fabric whose links and routes are read from file bytes that the caller holds.
 #![tactic(auto)]
 
-ghost use Rattle.std.specs.Prelude.{◌≡◌, ◌≢◌, ℕ, ◌/◌, ◌<◌, ◌≤◌, true, false, length, is_ok, IfSome, None, Ok, Err, MatchResult};
+ghost use Rattle.std.specs.Prelude.{◌≡◌, ◌≢◌, ◌≤◌, false, length, is_ok, IfSome, None};
+ghost use Rattle.records.specs.Lent.{Gives};
 ghost use Rattle.std.proofs.Common.{lit≤};
 ghost use Rattle.std.specs.Option.{option_map};
-ghost use Rattle.listed.specs.Records.{link_at, link_good, route_at, route_prior, route_good, seek, route_count, route_links, Stands};
+ghost use Rattle.listed.specs.Records.{LinksGood, RoutesGood, seek, route_count, route_links, Stands};
 
 mod checks;
 mod faults;
 mod reading;
 
-pub use self::faults::{SectionFault, SetFault};
-pub use self::reading::{read_section, set_records_stand};
 use self::checks::Links;
+pub use self::faults::{SectionFault, SetFault};
 use self::reading::read_listed_head;
+pub use self::reading::{read_section, set_records_stand};
 use fabric::Fabric;
 use records::record::{Link, Route};
 use records::section::Section;
@@ -29,8 +30,8 @@ pub struct Listed<'a> {
     ghost sized: { (1 ≤ nodes) × (nodes ≤ 64) },
     ghost slow: { delay ≤ 64 },
     ghost few: { length links.bytes.now ≤ 256 },
-    ghost linked: { (l : ℕ) → l < length links.bytes.now / 2 → link_good nodes (link_at links.bytes.now l) ≡ true },
-    ghost routed: { (k : ℕ) → k < length routes.bytes.now / 16 → route_good nodes links.bytes.now (route_prior routes.bytes.now k) (route_at routes.bytes.now k) ≡ true },
+    ghost linked: { LinksGood nodes links.bytes.now },
+    ghost routed: { RoutesGood nodes links.bytes.now routes.bytes.now },
 }
 
 impl<'a> Listed<'a> {
@@ -53,7 +54,7 @@ impl<'a> Listed<'a> {
     /// Replaces the fabric by that of a file, and answers the bytes that follow its routes; or refuses, by the first fault, and
     /// leaves the fabric. docs/FILE-FORMAT.md has the bytes of the head, the links and the routes.
     pub fn set(&mut self, file: &'a [u8]) -> Result<&'a [u8], SetFault>
-        ensures answer { MatchResult result (λ rest. description_read file.now ≡ Ok (description_of self.new, rest.now)) (λ e. description_read file.now ≡ Err e) }
+        ensures answer { Gives (λ rest. (description_of self.new, rest.now)) result (description_read file.now) }
         ensures numbers { refusal_of set_told result ≡ refusal_of set_told (description_read file.now) }
         ensures refused { is_ok result ≡ false → self.new ≡ self.old }
     {
@@ -89,7 +90,8 @@ impl<'a> Fabric for Listed<'a> {
 
     ghost bounded = { lit≤ tt };
 
-    ghost lawful = { λ s. listed_lawful s.nodes s.delay s.links.bytes.now s.routes.bytes.now s.sized.0 s.sized.1 s.slow s.few s.linked s.routed };
+    ghost lawful = { λ s.
+        listed_lawful s.nodes s.delay s.links.bytes.now s.routes.bytes.now s.sized.0 s.sized.1 s.slow s.few s.linked s.routed };
 
     fn reach() -> usize
         ensures { result ≡ 12 }

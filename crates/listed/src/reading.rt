@@ -1,5 +1,6 @@
 //! How the parts of a file are read: the head of a listed fabric, and a section of at most so many records.
-ghost use Rattle.std.specs.Prelude.{◌≡◌, ◌*◌, ◌≤◌, length, IfOk, Ok, Err, MatchResult};
+ghost use Rattle.std.specs.Prelude.{◌≡◌, ◌*◌, ◌≤◌, length, IfOk};
+ghost use Rattle.records.specs.Lent.{Gives};
 ghost use Rattle.listed.specs.SetRecords.{SetRecords};
 ghost use Rattle.listed.specs.Description.{head_fits, listed_head, section_read};
 
@@ -17,7 +18,7 @@ fn fits(head: &Head) -> bool
 
 // The head of a listed fabric, and what follows it.
 pub(crate) fn read_listed_head(file: &[u8]) -> Result<(Head, &[u8]), HeadFault>
-    ensures { MatchResult result (λ p. listed_head file.now ≡ Ok (p.0, p.1.now)) (λ e. listed_head file.now ≡ Err e) }
+    ensures { Gives (λ p. (p.0, p.1.now)) result (listed_head file.now) }
 {
     let (head, rest) = read_head(file)?;
     match head.kind {
@@ -32,7 +33,7 @@ pub fn read_section<'a, R: Record>(
     file: &'a [u8],
     limit: u16,
 ) -> Result<(Section<'a, R>, &'a [u8]), SectionFault>
-    ensures answer { MatchResult result (λ p. section_read R.SIZE limit file.now ≡ Ok (p.0.bytes.now, p.1.now)) (λ e. section_read R.SIZE limit file.now ≡ Err e) }
+    ensures answer { Gives (λ p. (p.0.bytes.now, p.1.now)) result (section_read R.SIZE limit file.now) }
     ensures few { IfOk result (λ p. length p.0.bytes.now ≤ limit * R.SIZE) }
 {
     if counted(file).is_some_and(|n| n > limit) {
@@ -44,5 +45,4 @@ pub fn read_section<'a, R: Record>(
 /// The links and routes of every fabric that a file sets are those of the file's records, and no others.
 pub fn set_records_stand()
     ensures records { SetRecords }
-{
-}
+{}

@@ -1,6 +1,6 @@
 -- Meaning. The byte form of each record kind, and the record that bytes stand for.
 -- A field of more than one byte is big-endian. Bytes with a wrong zero byte or kind are no record.
-use Rattle.std.specs.Prelude.{ℕ, cond, ◌&&◌, List, [], ◌∷◌, Some, None, Option, ◌==◌, nat_lt, slice_index}
+use Rattle.std.specs.Prelude.{ℕ, ◌<◌, cond, ◌&&◌, List, [], ◌∷◌, Some, None, Option, ◌==◌, nat_lt, slice_index}
 use Rattle.records.specs.Bytes.{be, bytes_of, listing}
 use Rattle.records.specs.declared.record.Link.{Link}
 use Rattle.records.specs.declared.record.Route.{Route}
@@ -35,6 +35,10 @@ task_form t = bytes_of 2 t.name (t.core ∷ 0 ∷ bytes_of 4 t.period (bytes_of 
 abbrev pub task_in : List ℕ → Task
 task_in bs = record { name = be 2 bs 0; core = slice_index bs 2; period = be 4 bs 4; phase = be 4 bs 8; width = be 4 bs 12 }
 
+-- the tasks that have a byte form: each field fits its bytes
+abbrev pub TaskFits : Task → Type 0
+TaskFits t = (t.name < 65536) × (t.period < 4294967296) × (t.phase < 4294967296) × (t.width < 4294967296)
+
 -- bytes are a task where the zero byte is 0
 abbrev pub task_of : List ℕ → Option Task
 task_of bs = cond (slice_index bs 3 == 0) (Some (task_in bs)) None
@@ -49,6 +53,11 @@ message_form m =
 abbrev pub message_in : List ℕ → Message
 message_in bs =
     record { name = be 2 bs 0; source = be 2 bs 2; destination = be 2 bs 4; kind = slice_index bs 6; delay = be 4 bs 8; width = be 4 bs 12 }
+
+-- the messages that have a byte form: each field fits its bytes, and the kind is 0 or 1
+abbrev pub MessageFits : Message → Type 0
+MessageFits m =
+    (m.name < 65536) × (m.source < 65536) × (m.destination < 65536) × (m.kind < 2) × (m.delay < 4294967296) × (m.width < 4294967296)
 
 -- bytes are a message where the kind is 0 or 1 and the zero byte is 0
 abbrev pub message_of : List ℕ → Option Message

@@ -6,3 +6,4 @@ pub mod Named
 pub mod Head
 pub mod Unique
 pub mod Tables
+pub mod Lent

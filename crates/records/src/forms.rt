@@ -1,7 +1,8 @@
 //! The byte form of each record kind.
 ghost use Rattle.std.specs.Prelude.{◌≡◌, ℕ, ◌<◌, ◌&&◌, List, [], ◌∷◌, length, Some, ◌==◌, nat_lt, slice_index, slice_index_or};
 ghost use Rattle.std.proofs.Common.{sym, ap, rules, arith};
-ghost use Rattle.records.specs.Forms.{link_form, link_of, route_form, route_of, task_form, task_of, message_form, message_of, route_in, task_in, message_in};
+ghost use Rattle.records.specs.Forms.{link_form, link_of, route_form, route_of, route_in, task_form, task_of, task_in, TaskFits};
+ghost use Rattle.records.specs.Forms.{message_form, message_of, message_in, MessageFits};
 ghost use Rattle.records.specs.Unique.{list_is, chosen, same_bytes};
 ghost use Rattle.std.proofs.lemmas.Bool.Decides.{nat_tests};
 ghost use Rattle.records.specs.Bytes.{be, bytes_of};
@@ -57,7 +58,7 @@ impl Record for Route {
 
     ghost some = { Prim.search rules };
 
-    ghost back = { λ x sound. ap (λ l. Some (record { from = x.from; to = x.to; length = x.length; links = l })) (sym (list_is 12 x.links sound)) };
+    ghost back = { λ x sound. ap (λ l. Some (record x { links = l })) (sym (list_is 12 x.links sound)) };
 
     fn read(bytes: &[u8]) -> Option<Route> {
         let [from, to, length, 0, links @ ..] = bytes else {
@@ -94,7 +95,7 @@ impl Record for Task {
 
     ghost parsed = { task_of };
 
-    ghost sound = { λ t. (t.name < 65536) × (t.period < 4294967296) × (t.phase < 4294967296) × (t.width < 4294967296) };
+    ghost sound = { TaskFits };
 
     ghost long = { Prim.search rules };
 
@@ -151,7 +152,8 @@ impl Canonical for Task {
         let w = same_bytes 4 bs 12 [] bytes in
         let f = same_bytes 4 bs 8 (bytes_of 4 (be 4 bs 12) []) bytes in
         let p = same_bytes 4 bs 4 (bytes_of 4 (be 4 bs 8) (bytes_of 4 (be 4 bs 12) [])) bytes in
-        let n = same_bytes 2 bs 0 (slice_index bs 2 ∷ 0 ∷ bytes_of 4 (be 4 bs 4) (bytes_of 4 (be 4 bs 8) (bytes_of 4 (be 4 bs 12) []))) bytes in
+        let after : List ℕ = bytes_of 4 (be 4 bs 4) (bytes_of 4 (be 4 bs 8) (bytes_of 4 (be 4 bs 12) [])) in
+        let n = same_bytes 2 bs 0 (slice_index bs 2 ∷ 0 ∷ after) bytes in
         cc (same, list_is 16 bs long, zero, n, p, f, w) };
 }
 
@@ -164,7 +166,7 @@ impl Record for Message {
 
     ghost parsed = { message_of };
 
-    ghost sound = { λ m. (m.name < 65536) × (m.source < 65536) × (m.destination < 65536) × (m.kind < 2) × (m.delay < 4294967296) × (m.width < 4294967296) };
+    ghost sound = { MessageFits };
 
     ghost long = { Prim.search rules };
 

@@ -1,5 +1,6 @@
 //! The head of a plan file.
-ghost use Rattle.std.specs.Prelude.{◌≡◌, Ok, Err, MatchResult};
+ghost use Rattle.std.specs.Prelude.{◌≡◌};
+ghost use Rattle.records.specs.Lent.{Gives};
 ghost use Rattle.records.specs.Head.{head_read, head_number, kind_read};
 
 use thiserror::Error;
@@ -63,7 +64,7 @@ impl HeadFault {
 
 /// The head of a file of version 1, and what follows it; docs/FILE-FORMAT.md has its six bytes.
 pub fn read_head(file: &[u8]) -> Result<(Head, &[u8]), HeadFault>
-    ensures { MatchResult result (λ p. head_read file.now ≡ Ok (p.0, p.1.now)) (λ e. head_read file.now ≡ Err e) }
+    ensures { Gives (λ p. (p.0, p.1.now)) result (head_read file.now) }
 {
     let [version, kind, x, y, delay, zero, rest @ ..] = file else {
         return Err(HeadFault::Short);

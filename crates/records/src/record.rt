@@ -38,7 +38,7 @@ pub trait Record: Sized {
 
 /// A kind whose records have no bytes but their form.
 pub trait Canonical: Record {
-    ghost only: { (bs : List ℕ) (x : Self) → length bs ≡ Self.Record.SIZE → Bytes bs → Self.Record.parsed bs ≡ Some x → Self.Record.form x ≡ bs };
+    ghost only: { (bs : List ℕ) (x : Self) → length bs ≡ Self.SIZE → Bytes bs → Self.parsed bs ≡ Some x → Self.form x ≡ bs };
 }
 
 /// A link of a listed fabric, from a node to a node.

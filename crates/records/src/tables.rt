@@ -78,34 +78,34 @@ impl<R: Named + Copy, const N: usize> Table<R, N> {
 
 /// Puts `x` into its place among the first `count`, where one is free behind them: the method of [`Table`] over any slice and
 /// count.
-pub fn insert<R: Named + Copy>(table: &mut [R], count: usize, x: R) -> Result<(), Full>
-    ensures answer { is_ok result ≡ nat_lt count (length table.old) }
-    ensures after { MatchResult result (λ _. take (count + 1) table.new ≡ add R.label x (take count table.old)) (λ _. table.new ≡ table.old) }
-    ensures rest { drop (count + 1) table.new ≡ drop (count + 1) table.old }
+pub fn insert<R: Named + Copy>(rows: &mut [R], count: usize, x: R) -> Result<(), Full>
+    ensures answer { is_ok result ≡ nat_lt count (length rows.old) }
+    ensures after { MatchResult result (λ _. take (count + 1) rows.new ≡ add R.label x (take count rows.old)) (λ _. rows.new ≡ rows.old) }
+    ensures rest { drop (count + 1) rows.new ≡ drop (count + 1) rows.old }
 {
-    if count >= table.len() {
+    if count >= rows.len() {
         return Err(Full);
     }
-    let at = rank_of(&table[..count], x.name());
-    put_at(&mut table[..=count], at, x);
+    let at = rank_of(&rows[..count], x.name());
+    put_at(&mut rows[..=count], at, x);
     Ok(())
 }
 
 /// Takes the first of a name out of the first `count`, where one has it; it then stands behind those still held. Over any slice
 /// and count too: a count beyond the slice finds nothing.
-pub fn remove<R: Named + Copy>(table: &mut [R], count: usize, name: u16) -> Option<R>
-    ensures answer { result ≡ (if nat_le count (length table.old) then named R.label name (take count table.old) else None) }
-    ensures after { MatchOption result (table.new ≡ table.old) (λ _. take (count - 1) table.new ≡ without R.label name (take count table.old)) }
-    ensures spare { IfSome result (λ x. take count table.new ≡ without R.label name (take count table.old) ++ x ∷ []) }
-    ensures rest { drop count table.new ≡ drop count table.old }
+pub fn remove<R: Named + Copy>(rows: &mut [R], count: usize, name: u16) -> Option<R>
+    ensures answer { result ≡ (if nat_le count (length rows.old) then named R.label name (take count rows.old) else None) }
+    ensures after { MatchOption result (rows.new ≡ rows.old) (λ _. take (count - 1) rows.new ≡ without R.label name (take count rows.old)) }
+    ensures spare { IfSome result (λ x. take count rows.new ≡ without R.label name (take count rows.old) ++ x ∷ []) }
+    ensures rest { drop count rows.new ≡ drop count rows.old }
 {
-    if count > table.len() {
+    if count > rows.len() {
         return None;
     }
-    let held = &table[..count];
+    let held = &rows[..count];
     let at = index_of(held, name)?;
     let gone = held[at];
-    take_at(&mut table[..count], at);
+    take_at(&mut rows[..count], at);
     Some(gone)
 }
 

@@ -1,4 +1,4 @@
--- The table of words: each word comes back from its padded form. Assumes nothing.
+-- The table of words: each word comes back from its padded form.
 use Rattle.std.proofs.Common.{◌≡◌, ℕ, zero, suc, ◌-◌, ◌≤◌, true, List, [], ◌∷◌, ◌++◌, length, get_or, take, map, codes, refl, ap, ◌∙◌, ⊎_elim, not-suc-le-zero, arith}
 use Rattle.std.specs.Char.{is_ascii_whitespace}
 use Rattle.std.specs.List.{All, list_all, suffix_len}

@@ -1,4 +1,4 @@
--- Refusals with their values, their section and their record. Assumes nothing.
+-- Rule. What is told of a fault: the refusal by its number and values, and the section and the record of a file.
 use Rattle.std.specs.Prelude.{ℕ, min, Some, None, Ok, Err, Option, Result}
 use Rattle.refusals.specs.declared.refusal.BufferFault.{BufferFault}
 use Rattle.refusals.specs.declared.refusal.Detail.TheVariants.{Plain}
@@ -17,7 +17,7 @@ told section place refusal = record { section = section; «record» = min place 
 abbrev pub buffer_told : BufferFault → Refusal
 buffer_told e = plain 27
 
--- what an answer tells where it refuses, by the number and values of each fault
+-- what is told of an answer where it refuses, by what is told of each fault
 abbrev pub refusal_of : {T E X : Type 0} → (E → X) → Result T E → Option X
 refusal_of tell (Ok x) = None
 refusal_of tell (Err e) = Some (tell e)

@@ -1,4 +1,4 @@
--- What a buffer holds after bytes are written into it, and what a pen writes. Assumes nothing.
+-- Rule: what a buffer holds after bytes are written into it. Working: what a pen writes.
 use Rattle.std.specs.Prelude.{◌≡◌, ℕ, ◌+◌, List, ◌++◌, length, take, drop}
 use Rattle.refusals.specs.declared.pen.Pen.{Pen}
 

@@ -9,14 +9,14 @@ use Rattle.records.proofs.tables.insert.Goals as goal
 -- the place is one of those of the records held, or the free one behind them
 pub put_at-requires : goal.put_at-requires
 put_at-requires g c =
-    let t = c.args.table.now in
+    let t = c.args.rows.now in
     let n = c.args.count in
     omega (arith, below_held g.R.Named.label _ n t c.rank_of-at.result (omega arith) c.rank_of-at.ensures, length-take-le (n + 1) t (omega arith))
 
 pub returns-clause-after : goal.returns-clause-after
 returns-clause-after g c =
     let f = g.R.Named.label in
-    let t = c.args.table.now in
+    let t = c.args.rows.now in
     let n = c.args.count in
     let x = c.args.x in
     let at = c.rank_of-at.result in

@@ -9,28 +9,28 @@ use Rattle.records.proofs.tables.remove.Goals as goal
 
 pub returns-in_err-at-clause-answer : goal.returns-in_err-at-clause-answer
 returns-in_err-at-clause-answer g c =
-    let xs = take c.args.count c.args.table.now in
+    let xs = take c.args.count c.args.rows.now in
     c.from_residual.ensures
-    ∙ sym (cond-true (leb c.args.count (length c.args.table.now)) _ _ (le-leb c.args.count (length c.args.table.now) (omega arith)) ∙ named_none g.R.Named.label c.args.name xs (sym c.in_err-at.ensures))
+    ∙ sym (cond-true (leb c.args.count (length c.args.rows.now)) _ _ (le-leb c.args.count (length c.args.rows.now) (omega arith)) ∙ named_none g.R.Named.label c.args.name xs (sym c.in_err-at.ensures))
 
 pub offset_bounds-held-at : goal.offset_bounds-held-at
-offset_bounds-held-at g c = omega (arith, (index_within g.R.Named.label c.args.name (take c.args.count c.args.table.now) c.in_ok-at.at (sym c.in_ok-at.ensures)).0)
+offset_bounds-held-at g c = omega (arith, (index_within g.R.Named.label c.args.name (take c.args.count c.args.rows.now) c.in_ok-at.at (sym c.in_ok-at.ensures)).0)
 
 pub bounds-held-at : goal.bounds-held-at
-bounds-held-at g c = (index_within g.R.Named.label c.args.name (take c.args.count c.args.table.now) c.in_ok-at.at (sym c.in_ok-at.ensures)).0
+bounds-held-at g c = (index_within g.R.Named.label c.args.name (take c.args.count c.args.rows.now) c.in_ok-at.at (sym c.in_ok-at.ensures)).0
 
 pub take_at-requires : goal.take_at-requires
-take_at-requires g c = (index_within g.R.Named.label c.args.name (take c.args.count c.args.table.now) c.in_ok-at.at (sym c.in_ok-at.ensures)).0
+take_at-requires g c = (index_within g.R.Named.label c.args.name (take c.args.count c.args.rows.now) c.in_ok-at.at (sym c.in_ok-at.ensures)).0
 
 pub returns-clause-answer : goal.returns-clause-answer
 returns-clause-answer g c =
-    let xs = take c.args.count c.args.table.now in
+    let xs = take c.args.count c.args.rows.now in
     ap Some c.index-held-at.is
-    ∙ sym (cond-true (leb c.args.count (length c.args.table.now)) _ _ (le-leb c.args.count (length c.args.table.now) (omega arith)) ∙ named_at g.R.Named.label c.args.name xs c.in_ok-at.at c.index-held-at.result (sym c.in_ok-at.ensures))
+    ∙ sym (cond-true (leb c.args.count (length c.args.rows.now)) _ _ (le-leb c.args.count (length c.args.rows.now) (omega arith)) ∙ named_at g.R.Named.label c.args.name xs c.in_ok-at.at c.index-held-at.result (sym c.in_ok-at.ensures))
 
 pub returns-clause-after : goal.returns-clause-after
 returns-clause-after g c =
-    let t = c.args.table.now in
+    let t = c.args.rows.now in
     let n = c.args.count in
     let xs = take n t in
     let at = c.in_ok-at.at in
@@ -44,7 +44,7 @@ returns-clause-after g c =
 pub returns-clause-spare : goal.returns-clause-spare
 returns-clause-spare g c =
     let f = g.R.Named.label in
-    let t = c.args.table.now in
+    let t = c.args.rows.now in
     let n = c.args.count in
     let xs = take n t in
     let at = c.in_ok-at.at in
