@@ -1,4 +1,4 @@
--- The number of each refusal of an offer, and the values that stand beside it. Assumes nothing.
+-- Rule. The number of each refusal of an offer, and the values that stand beside it.
 use Rattle.std.specs.Prelude.{ℕ}
 use Rattle.refusals.specs.Told.{plain}
 use Rattle.refusals.specs.declared.refusal.Refusal.{Refusal}

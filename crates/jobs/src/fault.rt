@@ -1,62 +1,84 @@
-// Why an offer is refused, and the number of each refusal.
+//! Why an offer is refused, and the number of each refusal.
 ghost use Rattle.jobs.specs.Numbers.{drop_told, meets, message_told, place_told, placing_told, task_told};
 ghost use Rattle.refusals.specs.declared.refusal.Refusal.{Refusal as RefusalOf};
 ghost use Rattle.std.specs.Prelude.{◌≡◌};
 
 use refusals::refusal::{Detail, Meeting, Refusal};
+use std::fmt::Display;
+use thiserror::Error;
 
-#[derive(Clone, Copy, PartialEq, Eq, Debug)]
+/// Why an offered task is refused, in the order of the checks.
+#[derive(Clone, Copy, PartialEq, Eq, Debug, Error)]
 pub enum TaskFault {
-    // 0, or held already
+    /// Its name is 0, or held already.
+    #[error("the name is 0 or held already")]
     Name,
-    // no such node
+    /// No node has its core.
+    #[error("no node has the core")]
     Core,
-    // period, phase or width outside the limits
+    /// Its period, phase or width is outside the limits.
+    #[error("the period, the phase or the width is outside the limits")]
     Times,
-    // 64 tasks are held
+    /// As many tasks are held as a plan has room for.
+    #[error("no more tasks can be held")]
     Full,
-    // it meets a held task
+    /// It meets a held task.
+    #[error("it meets task {} on core {} at instant {}", .0.held, .0.place, .0.instant)]
     Meets(Meeting),
 }
 
-#[derive(Clone, Copy, PartialEq, Eq, Debug)]
+/// Why an offered message is refused, in the order of the checks.
+#[derive(Clone, Copy, PartialEq, Eq, Debug, Error)]
 pub enum MessageFault {
-    // 0, or held already
+    /// Its name is 0, or held already.
+    #[error("the name is 0 or held already")]
     Name,
-    // the source or the destination is not held
+    /// Its source or its destination is not held.
+    #[error("the source or the destination is not held")]
     Ends,
-    // kind, delay or width outside the limits
+    /// Its kind, delay or width is outside the limits.
+    #[error("the kind, the delay or the width is outside the limits")]
     Times,
-    // the fabric has no route
+    /// The fabric has no route between the cores of its ends.
+    #[error("no route leads from the source to the destination")]
     NoRoute,
-    // 128 messages are held
+    /// As many messages are held as a plan has room for.
+    #[error("no more messages can be held")]
     Full,
-    // the least slack is below 0
+    /// Its least slack, in instants, is below 0.
+    #[error("a packet arrives late: the least slack is {0}")]
     Late(i64),
-    // it meets a held packet
+    /// A packet of it meets one of a held message.
+    #[error("it meets message {} on link {} at instant {}", .0.held, .0.place, .0.instant)]
     Meets(Meeting),
 }
 
-// Why a placing is refused.
-#[derive(Clone, Copy, PartialEq, Eq, Debug)]
+/// Why a placing is refused.
+#[derive(Clone, Copy, PartialEq, Eq, Debug, Error)]
+#[error_bound(E: Display)]
 pub enum PlacingFault<E> {
-    // a check of the offer that is tried before lateness and meetings
+    /// A check of the offer that is tried before lateness and meetings.
+    #[error(transparent)]
     Offer(E),
-    // no phase or delay works
+    /// No phase or delay works.
+    #[error("no phase or delay is free")]
     NoFit,
 }
 
-// Why a dropping is refused.
-#[derive(Clone, Copy, PartialEq, Eq, Debug)]
+/// Why a dropping is refused.
+#[derive(Clone, Copy, PartialEq, Eq, Debug, Error)]
 pub enum DropFault {
-    // no job of this name is held
+    /// No job of this name is held.
+    #[error("no job of this name is held")]
     Unknown,
-    // a held message names the task
+    /// A held message has the task as its source or its destination.
+    #[error("a held message names the task")]
     InUse,
 }
 
-// A core or link number is not below its count.
-#[derive(Clone, Copy, PartialEq, Eq, Debug)]
+/// A core or link number is not below its count.
+#[derive(Clone, Copy, PartialEq, Eq, Debug, Error)]
+#[error("no core or link has the number")]
 pub struct PlaceFault;
 
 impl From<PlaceFault> for Refusal {
@@ -112,7 +134,8 @@ impl From<MessageFault> for Refusal {
 
 // Whatever tells the fault of an offer tells that of its placing.
 impl<E: Into<Refusal>> From<PlacingFault<E>> for Refusal {
-    ghost from_gives = { λ e r. (tell : E → RefusalOf) → ((x : E) (s : RefusalOf) → E.converts x s → s ≡ tell x) → r ≡ placing_told tell e };
+    ghost from_gives = { λ e r.
+        (tell : E → RefusalOf) → ((x : E) (s : RefusalOf) → E.converts x s → s ≡ tell x) → r ≡ placing_told tell e };
 
     fn from(fault: PlacingFault<E>) -> Refusal {
         match fault {

@@ -1,4 +1,4 @@
-// Refusals by number and values, their words, and the line that tells a verdict.
+//! Refusals by number and values, their words, and the line that tells a verdict.
 #![tactic(auto)]
 
 pub mod line;

@@ -1,4 +1,4 @@
-// The verdict line, written into the caller's buffer.
+//! The verdict line, written into the caller's buffer.
 ghost use Rattle.std.specs.Prelude.{◌≡◌, ◌+◌, ◌≤◌, length, IfOk, if◌then◌else◌, Ok, Err, nat_lt};
 ghost use Rattle.refusals.specs.Lines.{line_text, detail_text, too_short};
 ghost use Rattle.refusals.specs.Written.{Puts, written};
@@ -7,7 +7,7 @@ use crate::pen::Pen;
 use crate::refusal::{BufferFault, Counts, Detail, Told};
 use crate::words::word;
 
-// No line is longer, so a buffer of this length takes any.
+/// No line is longer, so a buffer of this length takes any.
 pub const LONGEST_LINE: usize = 64;
 
 impl Pen<'_> {
@@ -63,8 +63,8 @@ impl Pen<'_> {
     }
 }
 
-// Writes the line of a verdict, the counts of tasks and messages or what is refused, to the start of the buffer and answers its
-// length; bytes beyond it stay.
+/// Writes the line of a verdict, the counts of tasks and messages or what is refused, to the start of the buffer and answers its
+/// length; bytes beyond it stay. A buffer of fewer than [`LONGEST_LINE`] bytes is refused whatever the line, and stays.
 pub fn write_line(out: &mut [u8], verdict: Result<Counts, Told>) -> Result<usize, BufferFault>
     ensures answer { result ≡ (if nat_lt (length out.old) 64 then Err too_short else Ok (length (line_text verdict))) }
     ensures buffer { out.new ≡ (if nat_lt (length out.old) 64 then out.old else written out.old 0 (line_text verdict)) }

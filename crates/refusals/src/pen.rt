@@ -1,5 +1,5 @@
-// A buffer that texts and decimal numbers are written into one after the other. `write!` of the texts by `Display` into an
-// `ArrayString` was tried: its contract does not tell that it answers `Ok` where the text fits, which `write_line` promises.
+//! A buffer that texts and decimal numbers are written into one after the other.
+// toolchain: the contract of `write!` into an `ArrayString` does not tell that it answers `Ok` where the text fits
 ghost use Rattle.std.specs.Prelude.{◌≡◌, ◌+◌, ◌≤◌, length};
 ghost use Rattle.refusals.specs.Written.{Puts};
 

@@ -1,26 +1,29 @@
-// A refusal by its number and values, and what a verdict line tells.
+//! A refusal by its number and values, and what a verdict line tells.
 ghost use Rattle.refusals.specs.Told.{buffer_told, plain, told};
 ghost use Rattle.std.specs.Prelude.{◌≡◌};
 
-// The first instant at which an offered job and a held one share a place. Meetings are ordered by the instant, then by the name,
-// then by the place.
+use thiserror::Error;
+
+/// The first instant at which an offered job and a held one share a place. Meetings are ordered by the instant, then by the name,
+/// then by the place.
 #[derive(Clone, Copy, PartialEq, Eq, PartialOrd, Ord, Debug)]
 pub struct Meeting {
+    /// Counted from 0.
     pub instant: u64,
-    // the name of the held job
+    /// The name of the held job.
     pub held: u16,
-    // the number of the core or link
+    /// The number of the core or link.
     pub place: u16,
 }
 
-// How many tasks and messages a file or a load has, all of them taken.
+/// How many tasks and messages a file or a load has, all of them taken.
 #[derive(Clone, Copy, PartialEq, Eq, Debug)]
 pub struct Counts {
     pub tasks: usize,
     pub messages: usize,
 }
 
-// What stands after the word: nothing, the least slack, or where a meeting is.
+/// What stands after the word: nothing, the least slack in instants, or where a meeting is.
 #[derive(Clone, Copy, PartialEq, Eq, Debug)]
 pub enum Detail {
     Plain,
@@ -28,14 +31,14 @@ pub enum Detail {
     Meeting(Meeting),
 }
 
-// The number is a plain byte: a line can be written, and a word asked for, with any.
+/// A refusal; docs/REFUSALS.md has the numbers. The number is a plain byte: a line can be written, and a word asked for, with any.
 #[derive(Clone, Copy, PartialEq, Eq, Debug)]
 pub struct Refusal {
     pub number: u8,
     pub detail: Detail,
 }
 
-// The parts of a plan file, in the order of their section numbers.
+/// The parts of a plan file, in the order of their section numbers.
 #[derive(Clone, Copy, PartialEq, Eq, Debug)]
 pub enum Part {
     Head,
@@ -46,7 +49,8 @@ pub enum Part {
     End,
 }
 
-// A refusal with the section and the record of a file that it names. The section is a plain byte, so that any may be told.
+/// A refusal as a file's verdict tells it, with the section and the record that it names. The section is a plain byte, so that any
+/// may be told.
 #[derive(Clone, Copy, PartialEq, Eq, Debug)]
 pub struct Told {
     pub section: u8,
@@ -55,7 +59,7 @@ pub struct Told {
 }
 
 impl Refusal {
-    // A refusal with no value beside it.
+    /// A refusal with no value beside it.
     pub fn plain(number: u8) -> Refusal
         ensures { result ≡ plain number }
     {
@@ -67,7 +71,7 @@ impl Refusal {
 }
 
 impl Told {
-    // A section has at most 65,535 records, so no place of one is past 65,535.
+    /// A section has at most 65,535 records: an index past that is told as 65,535.
     pub fn new(section: u8, record: usize, refusal: Refusal) -> Told
         ensures { result ≡ told section «record» refusal }
     {
@@ -79,8 +83,9 @@ impl Told {
     }
 }
 
-// The buffer is too short for what is written: refusal 27.
-#[derive(Clone, Copy, PartialEq, Eq, Debug)]
+/// The buffer is too short for what is written: refusal 27.
+#[derive(Clone, Copy, PartialEq, Eq, Debug, Error)]
+#[error("the buffer is too short")]
 pub struct BufferFault;
 
 impl From<BufferFault> for Refusal {

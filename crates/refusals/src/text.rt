@@ -1,4 +1,4 @@
-// Refusals as text, as scripts are answered.
+//! Refusals as text, as scripts are answered.
 ghost use Rattle.refusals.specs.Lines.{detail_text, refused_text, told_text};
 ghost use Rattle.std.specs.Prelude.{Some};
 

@@ -1,5 +1,5 @@
-// The words of the refusals, kept in constant memory and padded to eight bytes with spaces; docs/REFUSALS.md names them. A number
-// is a literal where its fault is told, all but 1, 24 and 25 there alone, and no enum of 27: a line may be asked for with any byte.
+//! The words of the refusals, kept in constant memory and padded to eight bytes with spaces; docs/REFUSALS.md names them. A number
+//! is a literal where its fault is told, since a line may be asked for with any byte.
 ghost use Rattle.std.specs.Prelude.{◌≡◌, ◌≤◌, length};
 ghost use Rattle.refusals.specs.Words.{word_of};
 
@@ -33,7 +33,7 @@ static WORDS: [[u8; 8]; 27] = [
     *b"BUFFER  ",
 ];
 
-// The word of a refusal, and no bytes for a number that is none of 1 to 27.
+/// The word of a refusal, and no bytes for a number that is none of 1 to 27.
 pub fn word(number: u8) -> &'static [u8]
     ensures value { result.now ≡ word_of number }
     ensures bound { length result.now ≤ 8 }
