@@ -1,4 +1,4 @@
--- The proof that the shuttle keeps the laws of a fabric. No definition stands here that a contract cites. Assumes nothing.
+-- Working. The proof that the shuttle keeps the laws of a fabric, `shuttle_lawful`: its own `lawful` cites it.
 use Rattle.std.specs.Prelude.{◌≡◌, ℕ, zero, suc, ◌+◌, ◌%◌, ◌<◌, ◌≤◌, Bool, true, false, cond, ◌&&◌, ◌⊎◌, List, [], ◌∷◌, length, Some, None, ◌==◌, ◌≢◌, nat_lt, refl}
 use Rattle.std.proofs.Common.{sym, ap, subst, ◌∙◌, inl, inr, arith, lit≤}
 use Rattle.std.specs.List.{range_with_len}

@@ -1,4 +1,4 @@
--- A fabric of three nodes whose one long route goes to and fro between two of them, 64 links in all. Assumes nothing.
+-- Meaning. A fabric of three nodes whose one long route goes to and fro between two of them, 64 links in all.
 use Rattle.std.specs.Prelude.{ℕ, ◌%◌, cond, ◌&&◌, List, [], ◌∷◌, Some, None, Option, ◌==◌, nat_lt}
 use Rattle.std.specs.List.{range_with_len}
 use Rattle.fabric.specs.Network.{Network}

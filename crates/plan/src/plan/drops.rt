@@ -35,7 +35,7 @@ impl<'f, F: Fabric> Plan<'f, F> {
     }
 
     // Takes the message of this name out.
-    #[tactic(auto, using(records::proofs::Places::spot_named))]
+    #[tactic(auto, using(records::proofs::Places::index_named))]
     pub fn drop_message(&mut self, name: u16) -> Result<(), DropFault>
         ensures answer { result ≡ (drop_message (jobs self.old) name).0 }
         ensures told { refusal_of drop_told result ≡ refusal_of drop_told (drop_message (jobs self.old) name).0 }

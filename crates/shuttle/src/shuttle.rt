@@ -1,13 +1,15 @@
-// A fabric of its own kind: three nodes, and one route of 64 links that goes to and fro between two of them.
+//! A fabric of its own kind: three nodes, and one route of 64 links that goes to and fro between two of them.
 ghost use Rattle.shuttle.specs.Laws.{shuttle_lawful};
 ghost use Rattle.shuttle.specs.Shuttle.{shuttle_network};
 ghost use Rattle.std.proofs.Common.{lit≤};
 
 use fabric::Fabric;
 
+/// The shuttle, of which there is one.
 #[derive(Clone, Copy)]
 pub struct Shuttle;
 
+// Its links, which its longest route takes all.
 const LINKS: usize = 64;
 
 impl Fabric for Shuttle {
