@@ -25,7 +25,7 @@ impl Hold {
     pub fn new(start: u64, period: u32, width: u32) -> Option<Hold>
         ensures { option_map span result ≡ spanned start period width }
     {
-        // by `if`, since a closure for `then` would have to ask for the limits again
+        // toolchain: a closure for `then` would have to ask for the limits again
         if start <= LATEST && 0 < width && width <= period && period <= LONGEST {
             Some(Hold {
                 start,

@@ -11,7 +11,7 @@ use Rattle.std.specs.List.{FoldsTo}
 use Rattle.std.specs.Option.{MatchOption, option_or}
 use Rattle.listed.specs.declared.faults.SetFault.TheVariants.{Link, Route, Chain, Order}
 use Rattle.records.specs.declared.record.Route.{Route as RouteRecord}
-use Rattle.listed.specs.Records.{link_count, link_at, link_good, route_count, route_at, route_prior, route_shape, route_names, route_leads, route_above, route_good}
+use Rattle.listed.specs.Records.{link_count, link_at, link_good, route_count, route_at, route_prior, route_shape, route_names, route_leads, route_above, route_good, LinksGood, RoutesGood}
 use Rattle.refusals.specs.Told.{checked}
 use Rattle.listed.specs.Description.{first_fault, link_fault, record_fault, route_fault, links_fault, routes_fault}
 
@@ -101,7 +101,7 @@ passed true o e h = (refl, h)
 passed false o e h = cc
 
 -- without a fault each link record is good
-pub links_good : (n : ℕ) (ls : List ℕ) → links_fault n ls ≡ None → (l : ℕ) → l < link_count ls → link_good n (link_at ls l) ≡ true
+pub links_good : (n : ℕ) (ls : List ℕ) → links_fault n ls ≡ None → LinksGood n ls
 links_good n ls none l h =
     let here = first_none (link_fault n ls) 0 (link_count ls) none l h in
     (passed (link_good n (link_at ls l)) None (Link l) (ap (link_fault n ls) (sym (zero-add l)) ∙ here)).0
@@ -118,6 +118,6 @@ record_good n ls prior k (Some r) here =
     and_from _ _ s.0 (and_from _ _ s.1 (and_from _ _ q.0 t.0))
 
 -- without a fault each route record is good
-pub routes_good : (n : ℕ) (ls rs : List ℕ) → routes_fault n ls rs ≡ None → (k : ℕ) → k < route_count rs → route_good n ls (route_prior rs k) (route_at rs k) ≡ true
+pub routes_good : (n : ℕ) (ls rs : List ℕ) → routes_fault n ls rs ≡ None → RoutesGood n ls rs
 routes_good n ls rs none k h =
     record_good n ls (route_prior rs k) k (route_at rs k) (ap (route_fault n ls rs) (sym (zero-add k)) ∙ first_none (route_fault n ls rs) 0 (route_count rs) none k h)

@@ -1,10 +1,10 @@
 -- The records of a listed fabric ascend, so each pair of nodes has one record at most; and what a file gives is of its records.
-use Rattle.std.proofs.Common.{◌≡◌, ℕ, zero, suc, ◌+◌, ◌-◌, ◌/◌, ◌<◌, true, false, cond, ◌&&◌, eqb, ltb, ◌⊎◌, List, [], length, Some, None, Ok, Err, Option, Result, sym, refl, ap, ◌∙◌, subst, zero-add, inl, inr, ⊎_elim, arith}
+use Rattle.std.proofs.Common.{◌≡◌, ℕ, zero, suc, ◌+◌, ◌-◌, ◌<◌, true, false, cond, ◌&&◌, eqb, ltb, ◌⊎◌, List, [], Some, None, Option, sym, refl, ap, ◌∙◌, subst, zero-add, inl, inr, ⊎_elim, arith}
 use Rattle.std.proofs.lemmas.Bool.{ltb-true, eqb-true, ne_eqb, and_parts, or_cases, cases_Bool, cond-true, cond-false}
 use Rattle.std.specs.Option.{option_map}
 use Rattle.records.specs.declared.record.Link.{Link}
 use Rattle.records.specs.declared.record.Route.{Route}
-use Rattle.listed.specs.Records.{link_at, route_count, route_at, route_prior, link_good, route_links, route_above, route_good, seek, listed_route}
+use Rattle.listed.specs.Records.{link_at, route_count, route_at, route_prior, link_good, route_links, route_above, route_good, RoutesGood, seek, listed_route}
 use Rattle.listed.specs.Description.{Description, links_fault, routes_fault}
 use Rattle.listed.specs.SetRecords.{OfRecords, SetRecords}
 use Rattle.listed.specs.Sound.{GoodParts, good_parts}
@@ -56,8 +56,7 @@ some_route : (n : ℕ) (ls : List ℕ) (prior o : Option Route) → route_good n
 some_route n ls prior None h = cc
 some_route n ls prior (Some r) h = (r, refl, good_parts n ls prior r h)
 
-module _ (n : ℕ) (ls rs : List ℕ)
-    (routed : (k : ℕ) → k < length rs / 16 → route_good n ls (route_prior rs k) (route_at rs k) ≡ true) where
+module _ (n : ℕ) (ls rs : List ℕ) (routed : RoutesGood n ls rs) where
   -- each place has a good record
   pub at_place : (k : ℕ) → k < route_count rs → (r : Route) × (route_at rs k ≡ Some r) × GoodParts n ls (route_prior rs k) r
   at_place k h = some_route n ls (route_prior rs k) (route_at rs k) (routed k h)

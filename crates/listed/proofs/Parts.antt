@@ -10,13 +10,11 @@ use Rattle.listed.specs.Description.{Description, description_read, links_fault,
 
 pub record Parts (file : List ℕ) (d : Description) : Type 0 where
   pub head : FileHead
-  -- what follows the head, the links and the routes
+  -- what follows the head and the links
   pub body : List ℕ
   pub tail : List ℕ
-  pub rest : List ℕ
   pub of_head : listed_head file ≡ Ok (head, body)
   pub of_links : section_read 2 128 body ≡ Ok (d.links, tail)
-  pub of_routes : section_read 16 256 tail ≡ Ok (d.routes, rest)
   pub linked : links_fault d.nodes d.links ≡ None
   pub routed : routes_fault d.nodes d.links d.routes ≡ None
   pub same_nodes : head.x ≡ d.nodes
@@ -51,10 +49,8 @@ parts file p read =
       head = h.0;
       body = h.1;
       tail = ls.1;
-      rest = rs.1;
       of_head = within_read Head (listed_head file) h head;
       of_links = within_read Links (section_read 2 128 h.1) ls links;
-      of_routes = within_read Routes (section_read 16 256 ls.1) rs routes;
       linked = linked;
       routed = routed;
       same_nodes = refl;

@@ -8,7 +8,7 @@ use Rattle.records.specs.declared.record.Route.{Route}
 use Rattle.records.specs.Forms.{link_of}
 use Rattle.records.specs.Sections.{record_bytes}
 use Rattle.fabric.specs.Network.{Chain, Once, Lawful}
-use Rattle.listed.specs.Records.{link_count, link_at, route_at, route_prior, link_good, route_links, route_shape, route_names, hop, chain_good, member, once_good, route_leads, route_above, route_good, pick, seek, listed_link, listed_route, listed}
+use Rattle.listed.specs.Records.{LinksGood, RoutesGood, link_count, link_at, route_at, route_prior, link_good, route_links, route_shape, route_names, hop, chain_good, member, once_good, route_leads, route_above, route_good, pick, seek, listed_link, listed_route, listed}
 
 -- an answer that stands behind a test
 pub guarded : {X : Type 0} (t : Bool) (o : Option X) (v : X) → cond t o None ≡ Some v → (t ≡ true) × (o ≡ Some v)
@@ -117,8 +117,7 @@ seek_sound rs a b k (suc n) r is =
     ]
 
 module _ (n d : ℕ) (ls rs : List ℕ) (some : 1 ≤ n) (few : n ≤ 64) (slow : d ≤ 64) (short : length ls ≤ 256)
-    (linked : (l : ℕ) → l < length ls / 2 → link_good n (link_at ls l) ≡ true)
-    (routed : (k : ℕ) → k < length rs / 16 → route_good n ls (route_prior rs k) (route_at rs k) ≡ true) where
+    (linked : LinksGood n ls) (routed : RoutesGood n ls rs) where
   -- what the laws ask of a route
   record Good (a b : ℕ) (r : List ℕ) : Type 0 where
     pub chained : Chain (listed_link ls) a r b

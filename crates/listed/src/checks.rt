@@ -44,8 +44,8 @@ impl Links<'_> {
         (apart && !numbers.is_empty() && named).then_some(numbers)
     }
 
-    // Whether the numbers lead from one node to the other. A closure of `is_some_and` that calls this would need a proof and a
-    // measure of its own.
+    // Whether the numbers lead from one node to the other.
+    // toolchain: a closure of `is_some_and` that calls this would need a proof and a measure of its own
     fn follows(&self, from: u8, numbers: &[u8], to: u8) -> bool
         ensures { result ≡ chain_good self.now.section.bytes.now from numbers.now to }
     {
@@ -97,7 +97,8 @@ fn below(numbers: &[u8], limit: usize) -> bool
     numbers.iter().all(|n| (*n as usize) < limit)
 }
 
-// Whether no number stands twice. A recursion for the same reason as `follows`.
+// Whether no number stands twice.
+// toolchain: a recursion, as `follows` is
 fn distinct(numbers: &[u8]) -> bool
     ensures { result ≡ once_good numbers.now }
 {

@@ -69,7 +69,7 @@ pub struct Task {
 }
 
 impl Task {
-    /// Fills a table's free places and is never read, so it is no `Default`.
+    /// What fills a table's free places; it is never read.
     pub const EMPTY: Task = Task {
         name: 0,
         core: 0,
@@ -92,7 +92,7 @@ pub struct Message {
 }
 
 impl Message {
-    /// Fills a table's free places and is never read, so it is no `Default`.
+    /// What fills a table's free places; it is never read.
     pub const EMPTY: Message = Message {
         name: 0,
         source: 0,

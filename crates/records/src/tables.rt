@@ -7,8 +7,8 @@ use crate::named::Named;
 use crate::search::index_of;
 use thiserror::Error;
 
-/// A table of N entries, of which the first `count` are held. No `ArrayVec`: it does not tell what stands behind the entries held,
-/// which `spare` and `rest` promise of an insert and a remove.
+/// A table of N entries, of which the first `count` are held.
+// toolchain: the contracts of `ArrayVec` do not tell what stands behind the entries held, as `spare` and `rest` do here
 #[derive(Drop)]
 pub struct Table<R, const N: usize> {
     places: [R; N],
