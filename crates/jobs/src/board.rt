@@ -2,8 +2,8 @@
 ghost use Rattle.jobs.specs.Boards.{ends_in};
 ghost use Rattle.std.specs.Prelude.{◌≡◌};
 
-use records::search::named;
 use records::record::{Message, Task};
+use records::search::named;
 
 #[derive(Drop)]
 pub struct Board<'a, F> {

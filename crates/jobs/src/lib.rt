@@ -6,8 +6,8 @@ ghost use Rattle.std.specs.Prelude.{◌≡◌};
 
 pub mod board;
 pub mod fault;
-pub mod holder;
 mod held;
+pub mod holder;
 pub mod job;
 mod meeting;
 pub mod message;
@@ -24,5 +24,4 @@ pub fn rules_stand()
     ensures tasks { TaskHolds }
     ensures packets { PacketHolds }
     ensures slack { SlackFormula }
-{
-}
+{}

@@ -23,8 +23,8 @@ use crate::task::{first_task_meeting, stay_of};
 use crate::way::Way;
 use fabric::Fabric;
 use holds::least_wait;
-use records::search::named;
 use records::record::{Message, Task};
+use records::search::named;
 use refusals::refusal::Meeting;
 
 // By how many instants a stay must be put off to be clear of a held one, none where it never is.

@@ -59,14 +59,14 @@ pub same_plan : {F : Type 0} {B : Ghosts F} (p : Plan F B) (ms : Table Message 1
     → ◌≡◌ {A = Plan F B} (record { fabric = p.fabric; tasks = p.tasks; messages = ms; clean = c; ordered = o; short = n }) p
 same_plan {F} {B} p ms c o n e =
     let Same : Table Message 128 → Type 0 = λ x. (c : ∥ Clean (setting p) (tabled p.tasks x) ∥₁) (o : Canonical (tabled p.tasks x)) (n : ShortNames (tabled p.tasks x))
-      → ◌≡◌ {A = Plan F B} (record { fabric = p.fabric; tasks = p.tasks; messages = x; clean = c; ordered = o; short = n }) p in
+    → ◌≡◌ {A = Plan F B} (record { fabric = p.fabric; tasks = p.tasks; messages = x; clean = c; ordered = o; short = n }) p in
     let one : IsProp (∥ Clean (setting p) (jobs p) ∥₁) = hlevel in
     let two : IsProp (Canonical (jobs p)) = hlevel props in
     let three : IsProp (ShortNames (jobs p)) = hlevel props in
     let here : Same p.messages = λ c o n.
-      ap (λ x. record { fabric = p.fabric; tasks = p.tasks; messages = p.messages; clean = x; ordered = o; short = n }) (one c p.clean)
-      ∙ ap (λ x. record { fabric = p.fabric; tasks = p.tasks; messages = p.messages; clean = p.clean; ordered = x; short = n }) (two o p.ordered)
-      ∙ ap (λ x. record { fabric = p.fabric; tasks = p.tasks; messages = p.messages; clean = p.clean; ordered = p.ordered; short = x }) (three n p.short) in
+    ap (λ x. record { fabric = p.fabric; tasks = p.tasks; messages = p.messages; clean = x; ordered = o; short = n }) (one c p.clean)
+    ∙ ap (λ x. record { fabric = p.fabric; tasks = p.tasks; messages = p.messages; clean = p.clean; ordered = x; short = n }) (two o p.ordered)
+    ∙ ap (λ x. record { fabric = p.fabric; tasks = p.tasks; messages = p.messages; clean = p.clean; ordered = p.ordered; short = x }) (three n p.short) in
     subst Same (sym e) here c o n
 
 pub none_of : {T E : Type 0} (o : Option T) (e x : E) → ok_or o e ≡ Err x → o ≡ None

@@ -9,5 +9,4 @@ ghost use Rattle.std.specs.Prelude.{◌≡◌};
 // A new plan is clean.
 pub fn plans_stand()
     ensures clean { (g : Setting) → Clean g nothing }
-{
-}
+{}

@@ -139,5 +139,4 @@ pub fn replay<'f, F: Fabric>(
 // was answered as promised.
 pub fn promise_stands()
     ensures promise { MainPromise }
-{
-}
+{}

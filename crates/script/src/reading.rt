@@ -94,5 +94,4 @@ pub fn lines_stand()
     ensures calls { CallsReadBack }
     ensures meshes { MeshesReadBack }
     ensures listed { ListedReadBack }
-{
-}
+{}

@@ -102,5 +102,4 @@ pub fn tell_line(
 // A refused load or listed fabric is shown as a verdict line tells it.
 pub fn told_stands()
     ensures verdicts { ToldAsVerdicts }
-{
-}
+{}

@@ -7,5 +7,4 @@ ghost use Rattle.std.specs.Prelude.{◌≡◌};
 // The definitions give the answers that were found by hand.
 pub fn worked_plans_stand()
     ensures plans { Worked }
-{
-}
+{}

@@ -23,8 +23,8 @@ use jobs::message::late_by;
 use jobs::task::first_task_meeting;
 use jobs::way::Way;
 use jobs::{message, task};
-use records::search::index_of;
 use records::record::{Message, Task};
+use records::search::index_of;
 use records::tables::Table;
 
 // A name fits in two bytes, which is known only of a parameter.

@@ -27,12 +27,12 @@ invariant_of-self-clause-ordered g c =
     (message_less_canonical (jobs p) c.args.name p.ordered)
 
 pub returns-in_err-ok_or-clause-refused : goal.returns-in_err-ok_or-clause-refused
-returns-in_err-ok_or-clause-refused g c = 
+returns-in_err-ok_or-clause-refused g c =
     λ _. same_plan c.args.self.now c.remove.new.self _ _ _
     (c.remove.ensures.unknown (none_of c.remove.result _ _ (sym c.ok_or.ensures.value ∙ c.in_err-ok_or.was)))
 
 pub invariant_of-self-clause-short : goal.invariant_of-self-clause-short
-invariant_of-self-clause-short g c = 
+invariant_of-self-clause-short g c =
     let p = c.args.self.now in
     subst ShortNames (sym (message_out p.tasks p.messages c.remove.new.self c.args.name c.remove.ensures.after))
     (record { tasks = p.short.tasks; messages = λ m i. p.short.messages m (without_in message_name c.args.name m (jobs p).messages i) })
@@ -44,13 +44,13 @@ pub returns-clause-told_model : goal.returns-clause-told_model
 returns-clause-told_model g c = message_dropped_of c.args.self.now c.args.name _ (search (rules, index_named))
 
 pub returns-in_err-ok_or-clause-clean : goal.returns-in_err-ok_or-clause-clean
-returns-in_err-ok_or-clause-clean g c = 
+returns-in_err-ok_or-clause-clean g c =
     let p = c.args.self.now in
     subst (Clean (setting p)) (sym (message_out p.tasks p.messages c.remove.new.self c.args.name c.remove.ensures.after))
     (message_dropped (setting p) (jobs p) c.args.name (clean_of p))
 
 pub returns-clause-clean : goal.returns-clause-clean
-returns-clause-clean g c = 
+returns-clause-clean g c =
     let p = c.args.self.now in
     subst (Clean (setting p)) (sym (message_out p.tasks p.messages c.remove.new.self c.args.name c.remove.ensures.after))
     (message_dropped (setting p) (jobs p) c.args.name (clean_of p))

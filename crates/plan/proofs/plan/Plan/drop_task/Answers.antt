@@ -28,7 +28,7 @@ invariant_of-self-clause-ordered g c =
     (task_less_canonical (jobs p) c.args.name p.ordered)
 
 pub invariant_of-self-clause-short : goal.invariant_of-self-clause-short
-invariant_of-self-clause-short g c = 
+invariant_of-self-clause-short g c =
     let p = c.args.self.now in
     subst ShortNames (sym (task_out p.tasks c.remove.new.self p.messages c.args.name c.remove.ensures.after))
     (record { tasks = λ t i. p.short.tasks t (without_in task_name c.args.name t (jobs p).tasks i); messages = p.short.messages })
@@ -49,7 +49,7 @@ pub returns-then-names_task-clause-clean : goal.returns-then-names_task-clause-c
 returns-then-names_task-clause-clean g c = clean_of c.args.self.now
 
 pub returns-clause-clean : goal.returns-clause-clean
-returns-clause-clean g c = 
+returns-clause-clean g c =
     let p = c.args.self.now in
     let free = ap (in_use c.args.name) (sym c.held-2.ensures) ∙ sym c.names_task.ensures ∙ c.if-names_task.false in
     subst (Clean (setting p)) (sym (task_out p.tasks c.remove.new.self p.messages c.args.name c.remove.ensures.after))
