@@ -2,7 +2,6 @@
 #![tactic(auto)]
 
 ghost use Rattle.jobs.specs.Stand.{PacketHolds, SlackFormula, TaskHolds};
-ghost use Rattle.std.specs.Prelude.{◌≡◌};
 
 pub mod board;
 pub mod fault;

@@ -4,7 +4,6 @@
 
 ghost use Rattle.jobs.specs.Jobs.{Setting, nothing};
 ghost use Rattle.promise.specs.Clean.{Clean};
-ghost use Rattle.std.specs.Prelude.{◌≡◌};
 
 // A new plan is clean.
 pub fn plans_stand()

@@ -2,7 +2,6 @@
 #![tactic(auto)]
 
 ghost use Rattle.worked.specs.Worked.{Worked};
-ghost use Rattle.std.specs.Prelude.{◌≡◌};
 
 // The definitions give the answers that were found by hand.
 pub fn worked_plans_stand()
