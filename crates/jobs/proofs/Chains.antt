@@ -1,31 +1,31 @@
--- What `find_map` over a slice answers, where the closure computes a function of each item. Assumes nothing.
+-- What `find_map` over a slice answers, where the closure computes a function of each item.
 use Rattle.std.proofs.Common.{◌≡◌, ℕ, zero, suc, ◌+◌, ◌<◌, List, [], ◌∷◌, length, get_or, map, Some, None, Option, sym, refl, ap, ◌∙◌, subst, arith}
 use denote.Param.Members.{Mut}
 use Rattle.std.specs.Bool.{IsTrue}
 use Rattle.std.specs.Fn.{Called}
-use Rattle.std.specs.Option.{IsSomeAnd, MatchOption, option_map}
+use Rattle.std.specs.Option.{IsSomeAnd, MatchOption, option_map, option_or}
 use Rattle.std.specs.Iterator.Runs.{AllItemsGive, CallKeepsClosure, EveryRun, IsFirstToGive, ItemsMapTo, SomeRun}
-use Rattle.jobs.specs.Holding.{first_some, or_else}
+use Rattle.jobs.specs.Holding.{first_some}
 
 module _ {X Y : Type 0} (h : X → Option Y) where
   -- no item has an answer
   none_answers : (xs : List X) → ((k : ℕ) (d : X) → k < length xs → h (get_or xs k d) ≡ None) → first_some h xs ≡ None
   none_answers [] none = refl
   none_answers (x ∷ xs) none =
-      ap (λ o. or_else o (first_some h xs)) (none 0 x (omega arith)) ∙ none_answers xs (λ k d l. none (suc k) d (omega arith))
+      ap (λ o. option_or o (first_some h xs)) (none 0 x (omega arith)) ∙ none_answers xs (λ k d l. none (suc k) d (omega arith))
 
   -- the item at a place has one, and none before it
   first_answers : (y : Y) (xs : List X) (i : ℕ) → i < length xs → ((d : X) → h (get_or xs i d) ≡ Some y) → ((k : ℕ) (d : X) → k < i → h (get_or xs k d) ≡ None) → first_some h xs ≡ Some y
   first_answers y [] i l here before = absurd (omega arith)
-  first_answers y (x ∷ xs) zero l here before = ap (λ o. or_else o (first_some h xs)) (here x)
+  first_answers y (x ∷ xs) zero l here before = ap (λ o. option_or o (first_some h xs)) (here x)
   first_answers y (x ∷ xs) (suc i) l here before =
-      ap (λ o. or_else o (first_some h xs)) (before 0 x (omega arith))
+      ap (λ o. option_or o (first_some h xs)) (before 0 x (omega arith))
       ∙ first_answers y xs i (omega arith) here (λ k d m. before (suc k) d (omega arith))
 
   -- the first answer in a list that was made of another
   pub first_some_map : {W : Type 0} (g : W → X) (ws : List W) → first_some h (map g ws) ≡ first_some (λ w. h (g w)) ws
   first_some_map g [] = refl
-  first_some_map g (w ∷ ws) = ap (or_else (h (g w))) (first_some_map g ws)
+  first_some_map g (w ∷ ws) = ap (option_or (h (g w))) (first_some_map g ws)
 
 module _ {A B R F : Type 0} (v : A → B) (g : Mut F (A × Unit {0}) (Option R)) (f : F) (h : B → Option R)
     (calls : (x : A) (y : Option R) (q : F) → Called g f (x, tt) y q → (q ≡ f) × (y ≡ h (v x))) where

@@ -1,6 +1,7 @@
 -- The holder that the rule tells has the place at the instant, and where it tells none, nothing has.
 use Rattle.std.proofs.Common.{◌≡◌, ℕ, zero, suc, ◌+◌, Bool, true, false, cond, List, [], ◌∷◌, map, Some, None, Option, sym, refl, ap, ◌∙◌, subst}
 use Rattle.std.specs.List.{slice_get}
+use Rattle.std.specs.Option.{option_and_then, option_or}
 use Rattle.std.proofs.lemmas.Bool.{cond-true}
 use Rattle.std.proofs.lemmas.Option.{same_Some}
 use Rattle.holds.specs.Run.{RunAt, run}
@@ -9,11 +10,14 @@ use Rattle.holds.proofs.Busy.{run_is}
 use Rattle.holds.proofs.Limits.{spanned_proper}
 use Rattle.records.specs.declared.record.Task.{Task}
 use Rattle.records.specs.declared.record.Message.{Message}
-use Rattle.jobs.specs.Holding.{Has, HolderIs, Holding, first_run, holder_among, or_else, run_of, run_on, with_name}
-use Rattle.jobs.specs.Jobs.{Setting, task_named}
+use Rattle.jobs.specs.Holding.{Has, HolderIs, Holding, first_run, holder_among, run_on, with_name}
+use Rattle.jobs.specs.Jobs.{Setting}
 use Rattle.jobs.specs.Meetings.{HeldJob, held_message, held_task}
 use Rattle.jobs.specs.declared.place.Place.{Place}
-use Rattle.jobs.specs.Takes.{Take, along, between, on_route, same_place}
+use Rattle.jobs.specs.Claims.{Claim, claims}
+use Rattle.jobs.specs.Places.{same_place}
+use Rattle.jobs.specs.Takes.{Take, take_of}
+use Rattle.jobs.specs.declared.job.Job.TheVariants as job
 
 -- ---- the run of one hold
 
@@ -36,20 +40,20 @@ Fit t = (h : Span) → t.hold ≡ Some h → Proper h
 abbrev pub AllFit : List Take → Type 0
 AllFit ts = (i : ℕ) (t : Take) → slice_get ts i ≡ Some t → Fit t
 
-of_sound : (o : Option Span) (n k : ℕ) → ((h : Span) → o ≡ Some h → Proper h) → run_of n o ≡ Some k → (h : Span) × (o ≡ Some h) × RunHolds h k n
+of_sound : (o : Option Span) (n k : ℕ) → ((h : Span) → o ≡ Some h → Proper h) → option_and_then (λ h. run h n) o ≡ Some k → (h : Span) × (o ≡ Some h) × RunHolds h k n
 of_sound None n k fit e = cc
 of_sound (Some h) n k fit e = (h, refl, run_sound h n k (fit h refl) e)
 
 on_sound : (p : Place) (n k : ℕ) (t : Take) → Fit t → run_on p n t ≡ Some k → Has p n k t
 on_sound p n k t fit e = go (same_place p t.place) refl e
   where
-    go : (b : Bool) → same_place p t.place ≡ b → cond b (run_of n t.hold) None ≡ Some k → Has p n k t
+    go : (b : Bool) → same_place p t.place ≡ b → cond b (option_and_then (λ h. run h n) t.hold) None ≡ Some k → Has p n k t
     go false at is = cc
     go true at is = (at, of_sound t.hold n k fit is)
 
 on_complete : (p : Place) (n k : ℕ) (t : Take) → Fit t → Has p n k t → run_on p n t ≡ Some k
 on_complete p n k t fit (at, (h, is, holds)) =
-    cond-true _ _ _ at ∙ ap (run_of n) is ∙ run_complete h n k (fit h is) holds
+    cond-true _ _ _ at ∙ ap (option_and_then (λ h. run h n)) is ∙ run_complete h n k (fit h is) holds
 
 module _ (p : Place) (n : ℕ) where
   first_sound : (ts : List Take) (k : ℕ) → AllFit ts → first_run p n ts ≡ Some k → (t : Take) × ((i : ℕ) × (slice_get ts i ≡ Some t)) × Has p n k t
@@ -57,7 +61,7 @@ module _ (p : Place) (n : ℕ) where
   first_sound (t ∷ ts) k fit e = go (run_on p n t) refl (first_sound ts k (λ i x. fit (suc i) x)) e
     where
       go : (o : Option ℕ) → run_on p n t ≡ o → (first_run p n ts ≡ Some k → (x : Take) × ((i : ℕ) × (slice_get ts i ≡ Some x)) × Has p n k x)
-          → or_else o (first_run p n ts) ≡ Some k → (x : Take) × ((i : ℕ) × (slice_get (t ∷ ts) i ≡ Some x)) × Has p n k x
+          → option_or o (first_run p n ts) ≡ Some k → (x : Take) × ((i : ℕ) × (slice_get (t ∷ ts) i ≡ Some x)) × Has p n k x
       go (Some j) at rest is = let same : j ≡ k = cc in (t, (0, refl), on_sound p n k t (fit 0 t refl) (at ∙ ap Some same))
       go None at rest is = later (rest is)
         where
@@ -69,7 +73,7 @@ module _ (p : Place) (n : ℕ) where
   first_none (x ∷ ts) fit e i k t at has = go (run_on p n x) refl (λ none j there. first_none ts (λ i y. fit (suc i) y) none j k t there has) e i at
     where
       go : (o : Option ℕ) → run_on p n x ≡ o → (first_run p n ts ≡ None → (j : ℕ) → slice_get ts j ≡ Some t → ⊥)
-          → or_else o (first_run p n ts) ≡ None → (i : ℕ) → slice_get (x ∷ ts) i ≡ Some t → ⊥
+          → option_or o (first_run p n ts) ≡ None → (i : ℕ) → slice_get (x ∷ ts) i ≡ Some t → ⊥
       go (Some j) is rest no_run i at = cc
       go None is rest no_run zero at =
           let same : x ≡ t = cc in
@@ -99,7 +103,7 @@ module _ (p : Place) (n : ℕ) where
           on name k h (suc i, e) = never name k (record { job = h.job; take = h.take; job_at = (i, e); take_at = h.take_at; named = h.named; has = h.has })
       lift (Some x) h here = record { job = h.job; take = h.take; job_at = (suc h.job_at.0, h.job_at.1); take_at = h.take_at; named = h.named; has = h.has }
 
-      go : (o : Option ℕ) → first_run p n j.takes ≡ o → HolderIs js p n (holder_among p n js) → HolderIs (j ∷ js) p n (or_else (with_name j.name o) (holder_among p n js))
+      go : (o : Option ℕ) → first_run p n j.takes ≡ o → HolderIs js p n (holder_among p n js) → HolderIs (j ∷ js) p n (option_or (with_name j.name o) (holder_among p n js))
       go None here rest = lift (holder_among p n js) rest here
       go (Some k) here rest = found (first_sound j.takes k (fit 0 j refl) here)
         where
@@ -108,35 +112,26 @@ module _ (p : Place) (n : ℕ) where
 
 -- ---- what tasks and messages take is fit
 
+-- the hold of a claim is proper where it is one
+pub claims_fit : (cs : List Claim) → AllFit (map take_of cs)
+claims_fit [] i x e h is = cc
+claims_fit (c ∷ cs) zero x e h is = spanned_proper c.span.start c.span.period c.span.width h (ap (λ y. y.hold) (same_Some _ _ e) ∙ is)
+claims_fit (c ∷ cs) (suc i) x e h is = claims_fit cs i x e h is
+
 pub task_fit : (t : Task) → AllFit (held_task t).takes
 task_fit t zero x e h is = spanned_proper t.phase t.period t.width h (ap (λ y. y.hold) (same_Some _ _ e) ∙ is)
 task_fit t (suc i) x e h is = cc
 
-mapped_fit : {X : Type 0} (f : X → HeldJob) (xs : List X) → ((x : X) → AllFit (f x).takes) → (i : ℕ) (j : HeldJob) → slice_get (map f xs) i ≡ Some j → AllFit j.takes
+pub message_fit : (g : Setting) (ts : List Task) (m : Message) → AllFit (held_message g ts m).takes
+message_fit g ts m = claims_fit (claims g ts (job.Message m))
+
+pub mapped_fit : {X : Type 0} (f : X → HeldJob) (xs : List X) → ((x : X) → AllFit (f x).takes) → (i : ℕ) (j : HeldJob) → slice_get (map f xs) i ≡ Some j → AllFit j.takes
 mapped_fit f [] fit i j e = cc
 mapped_fit f (x ∷ xs) fit zero j e = let same : f x ≡ j = cc in subst (λ (y : HeldJob). AllFit y.takes) same (fit x)
 mapped_fit f (x ∷ xs) fit (suc i) j e = mapped_fit f xs fit i j e
 
 pub tasks_fit : (ts : List Task) (i : ℕ) (j : HeldJob) → slice_get (map held_task ts) i ≡ Some j → AllFit j.takes
 tasks_fit ts = mapped_fit held_task ts task_fit
-
-along_fit : (hop : ℕ) (r : List ℕ) (s p w : ℕ) → AllFit (along hop r s p w)
-along_fit hop [] s p w i x e h is = cc
-along_fit hop (l ∷ ls) s p w zero x e h is = spanned_proper s p w h (ap (λ y. y.hold) (same_Some _ _ e) ∙ is)
-along_fit hop (l ∷ ls) s p w (suc i) x e h is = along_fit hop ls (s + hop) p w i x e h is
-
-route_fit : (hop : ℕ) (o : Option (List ℕ)) (s p w : ℕ) → AllFit (on_route hop o s p w)
-route_fit hop None s p w i x e = cc
-route_fit hop (Some r) s p w i x e = along_fit hop r s p w i x e
-
-between_fit : (g : Setting) (m : Message) (s d : Option Task) → AllFit (between g m s d)
-between_fit g m None d i x e = cc
-between_fit g m (Some s) None i x e = cc
-between_fit g m (Some s) (Some d) i x e =
-    route_fit g.network.delay (g.network.route s.core d.core) (s.phase + s.width + m.delay) s.period m.width i x e
-
-pub message_fit : (g : Setting) (ts : List Task) (m : Message) → AllFit (held_message g ts m).takes
-message_fit g ts m = between_fit g m (task_named ts m.source) (task_named ts m.destination)
 
 pub messages_fit : (g : Setting) (ts : List Task) (ms : List Message) (i : ℕ) (j : HeldJob) → slice_get (map (held_message g ts) ms) i ≡ Some j → AllFit j.takes
 messages_fit g ts ms = mapped_fit (held_message g ts) ms (message_fit g ts)

@@ -1,3 +1,4 @@
+pub mod PlaceLemmas
 pub mod Meets
 pub mod Walks
 pub mod Slacks
@@ -6,6 +7,6 @@ pub mod Holders
 pub mod Searches
 pub mod Waits
 pub mod Delays
-pub mod Checked
+pub mod Admitting
 pub mod Chains
 pub mod Timely

@@ -3,9 +3,11 @@ use Rattle.std.proofs.Common.{◌≡◌, ℕ, Bool, true, false, cond, List, [],
 use Rattle.std.proofs.lemmas.Bool.{both_ways}
 use Rattle.std.proofs.lemmas.Bool.Decides.{nat_tests}
 use Rattle.std.specs.List.{fold}
-use Rattle.refusals.specs.declared.refusal.Meeting.{Meeting}
+use Rattle.jobs.specs.declared.meeting.Meeting.{Meeting}
 use Rattle.jobs.specs.Meetings.{before, sooner, earliest_from, met, meetings, all_meetings, HeldJob}
 use Rattle.jobs.specs.Takes.{Take}
+use Rattle.jobs.specs.declared.place.Place.{Place}
+use Rattle.jobs.proofs.PlaceLemmas.{place_is}
 
 -- the earliest of two lists is that of the second, with the earliest of the first in hand
 pub earliest_append : (best : Option Meeting) (xs ys : List (Option Meeting)) → earliest_from best (xs ++ ys) ≡ earliest_from (earliest_from best xs) ys
@@ -19,12 +21,14 @@ all_more best own h hs = earliest_append best (meetings h.name own h.takes) (all
 
 -- ---- the order in which meetings are compared does not matter
 
-same : (n h p : ℕ) (b : Meeting) → n ≡ b.instant → h ≡ b.held → p ≡ b.place → ◌≡◌ {A = Meeting} (record { instant = n; held = h; place = p }) b
+same : (n h : ℕ) (p : Place) (b : Meeting) → n ≡ b.instant → h ≡ b.held → p ≡ b.place → ◌≡◌ {A = Meeting} (record { instant = n; held = h; place = p }) b
 same n h p b x y z = rw (x, y, z)
 
 -- two meetings of which none comes before the other are the same
 tied : (a b : Meeting) → before a b ≡ false → before b a ≡ false → a ≡ b
-tied a b x y = same a.instant a.held a.place b (grind (arith, nat_tests, x, y)) (grind (arith, nat_tests, x, y)) (grind (arith, nat_tests, x, y))
+tied a b x y =
+    same a.instant a.held a.place b (grind (arith, nat_tests, x, y)) (grind (arith, nat_tests, x, y))
+    (place_is a.place b.place (grind (arith, nat_tests, x, y)) (grind (arith, nat_tests, x, y)))
 
 not_both : (a b : Meeting) → before a b ≡ true → before b a ≡ false
 not_both a b x = grind (arith, nat_tests, x)

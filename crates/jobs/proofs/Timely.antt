@@ -2,18 +2,17 @@
 use Rattle.std.proofs.Common.{◌≡◌, ℕ, ◌+◌, ◌≤◌, Bool, true, false, cond, ◌&&◌, ltb, leb, ℤ, pos, ◌-ℤ◌, Some, None, Option, refl, ap, arith}
 use Rattle.std.proofs.lemmas.Int.{ints}
 use Rattle.std.proofs.lemmas.Bool.{le-leb}
-use Rattle.std.specs.Prelude.{int_lt}
+use Rattle.std.specs.Prelude.{int_lt, is_none}
 use Rattle.holds.specs.Held.{flowing}
 use Rattle.holds.specs.Limits.{latest, longest}
 use Rattle.holds.specs.Slack.{Flow}
 use Rattle.holds.specs.Span.{Span}
-use Rattle.jobs.specs.Placings.{clear}
-use Rattle.jobs.specs.Reading.{lateness, slack_of}
+use Rattle.jobs.specs.Slacks.{lateness, slack_of}
 
 -- what is late with a delay, by the slack without it
 abbrev pub LateBy : ℕ → Option ℤ → Option ℤ → Type 0
 LateBy v None o = lateness o ≡ None
-LateBy v (Some z) o = (int_lt z (pos v) ≡ true → clear (lateness o) ≡ false) × (int_lt z (pos v) ≡ false → lateness o ≡ None)
+LateBy v (Some z) o = (int_lt z (pos v) ≡ true → is_none (lateness o) ≡ false) × (int_lt z (pos v) ≡ false → lateness o ≡ None)
 
 -- what arrives later by v has less slack by v
 less : (x a v : ℕ) → LateBy v (Some (pos x -ℤ pos a)) (Some (pos x -ℤ pos (a + v)))

@@ -2,6 +2,7 @@
 use Rattle.std.proofs.Common.{◌≡◌, ℕ, zero, suc, ◌+◌, ◌*◌, ◌≤◌, Bool, true, false, cond, ◌&&◌, eqb, ltb, leb, List, [], ◌∷◌, map, length, Some, None, Option, sym, refl, ap, ◌∙◌, subst, ⊎_elim, suc-mul, arith}
 use Rattle.std.specs.List.{slice_get}
 use Rattle.std.specs.Option.{option_map}
+use Rattle.std.specs.Prelude.{is_none}
 use Rattle.std.proofs.lemmas.Bool.{both_ways, cond_both, le-leb}
 use Rattle.std.proofs.lemmas.Option.{slice_get-map}
 use Rattle.holds.specs.First.{IsFirst, first}
@@ -14,16 +15,18 @@ use Rattle.holds.proofs.First.{first_is}
 use Rattle.holds.proofs.Limits.{proper}
 use Rattle.holds.proofs.Pair.{clear_apart, clear_or_meet}
 use Rattle.records.specs.Named.{named}
-use Rattle.refusals.specs.declared.refusal.Meeting.{Meeting}
+use Rattle.jobs.specs.declared.meeting.Meeting.{Meeting}
 use Rattle.jobs.specs.declared.open.OpenTask.{OpenTask}
 use Rattle.jobs.specs.declared.stay.Stay.{Stay}
 use Rattle.jobs.specs.Meetings.{HeldJob, all_meetings, at_instant, before, earliest_from, first_met, meetings, met, sooner}
 use Rattle.jobs.specs.Open.{task_at}
-use Rattle.jobs.specs.Placings.{clear}
 use Rattle.jobs.specs.declared.place.Place.{Place}
-use Rattle.jobs.specs.Takes.{Take, along, core, link_take, same_place, task_takes}
+use Rattle.fabric.specs.Network.{Network}
+use Rattle.jobs.specs.Places.{core, link, same_place}
+use Rattle.jobs.specs.Takes.{Take, route_takes, task_takes}
+use Rattle.jobs.specs.Timing.{link_delay, travel}
 use Rattle.jobs.specs.Waits.{Among, StillMeets, StillMet, put_off}
-use Rattle.jobs.specs.Boards.{job_of}
+use Rattle.jobs.specs.Routings.{job_of}
 use Rattle.jobs.specs.Ways.{stay_take}
 use Rattle.jobs.proofs.Meets.{earliest_append}
 use Rattle.jobs.proofs.Searches.{FailsFrom}
@@ -31,52 +34,52 @@ use Rattle.jobs.proofs.Searches.{FailsFrom}
 -- ---- a meeting among others
 
 -- the sooner of two is one where either is
-sooner_first : (a b : Option Meeting) → clear a ≡ false → clear (sooner a b) ≡ false
+sooner_first : (a b : Option Meeting) → is_none a ≡ false → is_none (sooner a b) ≡ false
 sooner_first None b e = absurd (both_ways true e refl)
 sooner_first (Some a) None e = refl
-sooner_first (Some a) (Some b) e = cond_both (before b a) (Some b) (Some a) (λ o. clear o ≡ false) (λ _. refl) (λ _. refl)
+sooner_first (Some a) (Some b) e = cond_both (before b a) (Some b) (Some a) (λ o. is_none o ≡ false) (λ _. refl) (λ _. refl)
 
-sooner_second : (a b : Option Meeting) → clear b ≡ false → clear (sooner a b) ≡ false
+sooner_second : (a b : Option Meeting) → is_none b ≡ false → is_none (sooner a b) ≡ false
 sooner_second None b e = e
 sooner_second (Some a) b e = sooner_first (Some a) b refl
 
-earliest_kept : (best : Option Meeting) (xs : List (Option Meeting)) → clear best ≡ false → clear (earliest_from best xs) ≡ false
+earliest_kept : (best : Option Meeting) (xs : List (Option Meeting)) → is_none best ≡ false → is_none (earliest_from best xs) ≡ false
 earliest_kept best [] e = e
 earliest_kept best (x ∷ xs) e = earliest_kept (sooner best x) xs (sooner_first best x e)
 
 module _ (x y : Take) where
   -- one take against each of a held job's
-  met_each : (best : Option Meeting) (name : ℕ) (ys : List Take) (j : ℕ) → slice_get ys j ≡ Some y → clear (met name x y) ≡ false
-      → clear (earliest_from best (map (met name x) ys)) ≡ false
+  met_each : (best : Option Meeting) (name : ℕ) (ys : List Take) (j : ℕ) → slice_get ys j ≡ Some y → is_none (met name x y) ≡ false
+      → is_none (earliest_from best (map (met name x) ys)) ≡ false
   met_each best name [] j e h = cc
   met_each best name (u ∷ ys) zero e h =
       let same : u ≡ y = cc in
       earliest_kept (sooner best (met name x u)) (map (met name x) ys)
-      (sooner_second best (met name x u) (subst (λ (t : Take). clear (met name x t) ≡ false) (sym same) h))
+      (sooner_second best (met name x u) (subst (λ (t : Take). is_none (met name x t) ≡ false) (sym same) h))
   met_each best name (u ∷ ys) (suc j) e h = met_each (sooner best (met name x u)) name ys j e h
 
   -- each take of the offered job against those
-  met_both : (best : Option Meeting) (name : ℕ) (xs ys : List Take) (i j : ℕ) → slice_get xs i ≡ Some x → slice_get ys j ≡ Some y → clear (met name x y) ≡ false
-      → clear (earliest_from best (meetings name xs ys)) ≡ false
+  met_both : (best : Option Meeting) (name : ℕ) (xs ys : List Take) (i j : ℕ) → slice_get xs i ≡ Some x → slice_get ys j ≡ Some y → is_none (met name x y) ≡ false
+      → is_none (earliest_from best (meetings name xs ys)) ≡ false
   met_both best name [] ys i j ex ey h = cc
   met_both best name (u ∷ xs) ys zero j ex ey h =
       let same : u ≡ x = cc in
       rw earliest_append
       (earliest_kept (earliest_from best (map (met name u) ys)) (meetings name xs ys)
-      (subst (λ (t : Take). clear (earliest_from best (map (met name t) ys)) ≡ false) (sym same) (met_each best name ys j ey h)))
+      (subst (λ (t : Take). is_none (earliest_from best (map (met name t) ys)) ≡ false) (sym same) (met_each best name ys j ey h)))
   met_both best name (u ∷ xs) ys (suc i) j ex ey h =
       rw earliest_append (met_both (earliest_from best (map (met name u) ys)) name xs ys i j ex ey h)
 
   -- and against each held job's: one pair that meets is enough
   pub met_all : (best : Option Meeting) (xs : List Take) (hs : List HeldJob) (k i j : ℕ) (h : HeldJob)
-      → slice_get hs k ≡ Some h → slice_get xs i ≡ Some x → slice_get h.takes j ≡ Some y → clear (met h.name x y) ≡ false
-      → clear (earliest_from best (all_meetings xs hs)) ≡ false
+      → slice_get hs k ≡ Some h → slice_get xs i ≡ Some x → slice_get h.takes j ≡ Some y → is_none (met h.name x y) ≡ false
+      → is_none (earliest_from best (all_meetings xs hs)) ≡ false
   met_all best xs [] k i j h eh ex ey m = cc
   met_all best xs (u ∷ hs) zero i j h eh ex ey m =
       let same : u ≡ h = cc in
       rw earliest_append
       (earliest_kept (earliest_from best (meetings u.name xs u.takes)) (all_meetings xs hs)
-      (subst (λ (v : HeldJob). clear (earliest_from best (meetings v.name xs v.takes)) ≡ false) (sym same) (met_both best h.name xs h.takes i j ex ey m)))
+      (subst (λ (v : HeldJob). is_none (earliest_from best (meetings v.name xs v.takes)) ≡ false) (sym same) (met_both best h.name xs h.takes i j ex ey m)))
   met_all best xs (u ∷ hs) (suc k) i j h eh ex ey m =
       rw earliest_append (met_all (earliest_from best (meetings u.name xs u.takes)) xs hs k i j h eh ex ey m)
 
@@ -84,7 +87,7 @@ module _ (x y : Take) where
 
 -- put off by less than the least wait, they meet
 meets_before : (own held : Span) → Proper own → Proper held → (n : ℕ) → ((Meet held (later n own) → ⊥) → ⊥)
-    → (f : ℕ → Meeting) → clear (option_map f (first (later n own) held)) ≡ false
+    → (f : ℕ → Meeting) → is_none (option_map f (first (later n own) held)) ≡ false
 meets_before own held po ph n never f = go (first (later n own) held) (first_is (later n own) held pl ph)
   where
     pl : Proper (later n own)
@@ -93,7 +96,7 @@ meets_before own held po ph n never f = go (first (later n own) held) (first_is 
     meet : Meet held (later n own)
     meet = ⊎_elim (λ c. absurd (never (clear_apart held (later n own) ph pl c))) (λ m. m) (clear_or_meet held (later n own) ph pl)
 
-    go : (o : Option ℕ) → IsFirst (later n own) held o → clear (option_map f o) ≡ false
+    go : (o : Option ℕ) → IsFirst (later n own) held o → is_none (option_map f o) ≡ false
     go None no-meet = absurd (no-meet (meet.0, meet.2, meet.1))
     go (Some i) is = refl
 
@@ -173,15 +176,16 @@ task_later t v n l = ap (λ h. record { place = core t.core; hold = h } ∷ []) 
 
 -- so the phases within the wait meet
 pub phase_fails : (t : OpenTask) (hs : List HeldJob) (v : ℕ) (wait : Option ℕ) → StillMet (task_takes (task_at t v)) hs wait
-    → FailsFrom (λ p. clear (first_met (task_takes (task_at t p)) hs)) v wait
-phase_fails t hs v None still = λ n l. subst (λ ts. clear (first_met ts hs) ≡ false) (sym (task_later t v n (omega arith))) (still n)
-phase_fails t hs v (Some w) still = λ n k l. subst (λ ts. clear (first_met ts hs) ≡ false) (sym (task_later t v n (omega arith))) (still n k)
+    → FailsFrom (λ p. is_none (first_met (task_takes (task_at t p)) hs)) v wait
+phase_fails t hs v None still = λ n l. subst (λ ts. is_none (first_met ts hs) ≡ false) (sym (task_later t v n (omega arith))) (still n)
+phase_fails t hs v (Some w) still = λ n k l. subst (λ ts. is_none (first_met ts hs) ≡ false) (sym (task_later t v n (omega arith))) (still n k)
 
 -- later packets take the same links later
-pub along_later : (hop : ℕ) (ls : List ℕ) (s p w n : ℕ) → s + n + length ls * hop ≤ latest → along hop ls (s + n) p w ≡ map (put_off n) (along hop ls s p w)
-along_later hop [] s p w n l = refl
-along_later hop (x ∷ ls) s p w n l =
-    let turn = suc-mul (length ls) hop in
-    let swap : s + n + hop ≡ s + hop + n = omega arith in
-    ap (λ h. link_take x h ∷ along hop ls (s + n + hop) p w) (spanned_later s p w n (omega arith))
-    ∙ ap (λ ts. link_take x (option_map (later n) (spanned s p w)) ∷ ts) (ap (λ (k : ℕ). along hop ls k p w) swap ∙ along_later hop ls (s + hop) p w n (omega arith))
+pub route_later : (net : Network) (ls : List ℕ) (s p w n : ℕ) → s + n + travel net ls ≤ latest → route_takes net ls (s + n) p w ≡ map (put_off n) (route_takes net ls s p w)
+route_later net [] s p w n l = refl
+route_later net (x ∷ ls) s p w n l =
+    let d = link_delay net x in
+    let swap : s + n + d ≡ s + d + n = omega arith in
+    ap (λ h. record { place = link x; hold = h } ∷ route_takes net ls (s + n + d) p w) (spanned_later s p w n (omega arith))
+    ∙ ap (λ ts. record { place = link x; hold = option_map (later n) (spanned s p w) } ∷ ts)
+    (ap (λ (k : ℕ). route_takes net ls k p w) swap ∙ route_later net ls (s + d) p w n (omega arith))

@@ -1,4 +1,4 @@
--- Droppings: the answer, and what is held after. Assumes nothing.
+-- Rule. Droppings: the answer, and what is held after.
 use Rattle.std.specs.Prelude.{ℕ, Bool, cond, ◌||◌, List, is_some, Ok, Err, Result, ◌==◌}
 use Rattle.records.specs.Named.{index_of}
 use Rattle.records.specs.declared.record.Message.{Message}

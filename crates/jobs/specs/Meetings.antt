@@ -1,14 +1,15 @@
--- The first meeting of a job with those that are held. Assumes nothing.
+-- Rule. The first meeting of a job with those that are held.
 use Rattle.std.specs.Prelude.{ℕ, Bool, cond, ◌&&◌, ◌||◌, List, [], ◌∷◌, ◌++◌, map, Some, None, Option, ◌==◌, nat_lt}
 use Rattle.std.specs.Option.{option_map}
 use Rattle.holds.specs.Span.{Span}
 use Rattle.holds.specs.First.{first}
 use Rattle.records.specs.declared.record.Task.{Task}
 use Rattle.records.specs.declared.record.Message.{Message}
-use Rattle.refusals.specs.declared.refusal.Meeting.{Meeting}
+use Rattle.jobs.specs.declared.meeting.Meeting.{Meeting}
 use Rattle.jobs.specs.Jobs.{Setting}
 use Rattle.jobs.specs.declared.place.Place.{Place}
-use Rattle.jobs.specs.Takes.{number, same_place, Take, task_takes, message_takes}
+use Rattle.jobs.specs.Places.{place_before, same_place}
+use Rattle.jobs.specs.Takes.{Take, task_takes, message_takes}
 use Rattle.std.specs.List.{fold}
 
 -- the first instant of all time that lies in both holds
@@ -18,7 +19,7 @@ shared (Some h) None = None
 shared (Some h) (Some k) = first h k
 
 abbrev pub at_instant : ℕ → Place → ℕ → Meeting
-at_instant name p n = record { instant = n; held = name; place = number p }
+at_instant name p n = record { instant = n; held = name; place = p }
 
 -- where an offered job's take x meets the take y of the held job of this name
 abbrev pub met : ℕ → Take → Take → Option Meeting
@@ -28,7 +29,7 @@ met name x y = cond (same_place x.place y.place) (option_map (at_instant name x.
 abbrev pub before : Meeting → Meeting → Bool
 before a b =
     nat_lt a.instant b.instant
-    || (a.instant == b.instant && (nat_lt a.held b.held || (a.held == b.held && nat_lt a.place b.place)))
+    || (a.instant == b.instant && (nat_lt a.held b.held || (a.held == b.held && place_before a.place b.place)))
 
 abbrev pub sooner : Option Meeting → Option Meeting → Option Meeting
 sooner None y = y

@@ -3,7 +3,7 @@ use Rattle.std.specs.Prelude.{ℕ}
 use Rattle.refusals.specs.Told.{plain}
 use Rattle.refusals.specs.declared.refusal.Refusal.{Refusal}
 use Rattle.refusals.specs.declared.refusal.Detail.TheVariants as detail
-use Rattle.refusals.specs.declared.refusal.Meeting.{Meeting}
+use Rattle.jobs.specs.declared.meeting.Meeting.{Meeting}
 use Rattle.jobs.specs.declared.fault.TaskFault.{TaskFault}
 use Rattle.jobs.specs.declared.fault.TaskFault.TheVariants as task_fault
 use Rattle.jobs.specs.declared.fault.MessageFault.{MessageFault}
@@ -16,9 +16,9 @@ use Rattle.jobs.specs.declared.fault.DropFault.TheVariants as drop_fault
 use Rattle.jobs.specs.declared.job.JobFault.{JobFault}
 use Rattle.jobs.specs.declared.job.JobFault.TheVariants as job_fault
 
--- a refusal with the first meeting: its instant, the held name and the place
+-- a refusal with the first meeting: its instant, the held name and the number of the place
 abbrev pub meets : ℕ → Meeting → Refusal
-meets n m = record { number = n; detail = detail.Meeting m }
+meets n m = record { number = n; detail = detail.Meeting (record { instant = m.instant; held = m.held; place = m.place.number }) }
 
 abbrev pub task_told : TaskFault → Refusal
 task_told task_fault.Name = plain 9

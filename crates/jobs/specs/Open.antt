@@ -1,4 +1,4 @@
--- Jobs that are to be placed, and the jobs that they become. Assumes nothing.
+-- Meaning. Jobs that are to be placed, and the jobs that they become.
 use Rattle.std.specs.Prelude.{ℕ}
 use Rattle.records.specs.declared.record.Task.{Task}
 use Rattle.records.specs.declared.record.Message.{Message}

@@ -1,22 +1,21 @@
--- A job that is put off: how long it still meets one that is held, and which delays are in time. Assumes nothing.
-use Rattle.std.specs.Prelude.{◌≡◌, ℕ, ◌<◌, ◌≤◌, Bool, false, List, map, ℤ, Some, None, Option}
+-- Working. A job that is put off: how long it still meets one that is held, and which delays are in time.
+use Rattle.std.specs.Prelude.{◌≡◌, ℕ, ◌<◌, ◌≤◌, Bool, false, List, is_none, map, ℤ, Some, None, Option}
 use Rattle.std.specs.Option.{option_map}
 use Rattle.std.specs.List.{slice_get}
 use Rattle.holds.specs.Span.{later}
+use Rattle.fabric.specs.Network.{Network}
 use Rattle.jobs.specs.declared.stay.Stay.{Stay}
 use Rattle.jobs.specs.Meetings.{HeldJob, first_met, met}
 use Rattle.jobs.specs.declared.open.OpenMessage.{OpenMessage}
-use Rattle.records.specs.declared.record.Task.{Task}
-use Rattle.jobs.specs.Jobs.{Setting}
 use Rattle.jobs.specs.Open.{message_at}
-use Rattle.jobs.specs.Placings.{clear}
-use Rattle.jobs.specs.Reading.{lateness, message_slack}
+use Rattle.jobs.specs.Slacks.{lateness, message_slack}
 use Rattle.jobs.specs.Takes.{Take}
+use Rattle.jobs.specs.Trips.{Trip}
 use Rattle.jobs.specs.Ways.{stay_take}
 
 -- a take put off by n instants
 abbrev pub put_off : ℕ → Take → Take
-put_off n t = record { place = t.place; hold = option_map (later n) t.hold }
+put_off n t = record t { hold = option_map (later n) t.hold }
 
 -- the test fails of each number below the wait; without a wait, of every number
 abbrev pub Fails : (ℕ → Bool) → Option ℕ → Type 0
@@ -25,23 +24,23 @@ Fails test (Some w) = (n : ℕ) → n < w → test n ≡ false
 
 -- put off by less than the wait, x still meets y
 abbrev pub StillMeets : Take → Take → Option ℕ → Type 0
-StillMeets x y wait = (name : ℕ) → Fails (λ n. clear (met name (put_off n x) y)) wait
+StillMeets x y wait = (name : ℕ) → Fails (λ n. is_none (met name (put_off n x) y)) wait
 
 -- put off by less than the wait, a job still meets one of those held
 abbrev pub StillMet : List Take → List HeldJob → Option ℕ → Type 0
-StillMet own held wait = Fails (λ n. clear (first_met (map (put_off n) own) held)) wait
+StillMet own held wait = Fails (λ n. is_none (first_met (map (put_off n) own) held)) wait
 
 -- a stay, where there is one, is among some takes
 abbrev pub Among : List Take → Option Stay → Type 0
 Among ts None = Unit {0}
 Among ts (Some s) = (i : ℕ) × (slice_get ts i ≡ Some (stay_take s))
 
--- whether packets of a message with the delay v are late, over a route of so many links
-abbrev pub late_at : Setting → Task → Task → OpenMessage → ℕ → ℕ → Option ℤ
-late_at g s d m links v = lateness (message_slack g.network.delay s d (message_at m v) links)
+-- the slack, where it is below 0, of a message with the delay v
+abbrev pub late_at : Network → Trip → OpenMessage → ℕ → Option ℤ
+late_at net t m v = lateness (message_slack net t (message_at m v))
 
 -- the first n delays are in time, and all others below the source's period late
-pub record InTime (g : Setting) (s d : Task) (m : OpenMessage) (links n : ℕ) : Type 0 where
-  pub within : n ≤ s.period
-  pub in_time : (v : ℕ) → v < n → late_at g s d m links v ≡ None
-  pub late : (v : ℕ) → n ≤ v → v < s.period → clear (late_at g s d m links v) ≡ false
+pub record InTime (net : Network) (t : Trip) (m : OpenMessage) (n : ℕ) : Type 0 where
+  pub within : n ≤ t.source.period
+  pub in_time : (v : ℕ) → v < n → late_at net t m v ≡ None
+  pub late : (v : ℕ) → n ≤ v → v < t.source.period → is_none (late_at net t m v) ≡ false

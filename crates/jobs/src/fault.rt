@@ -3,7 +3,8 @@ ghost use Rattle.jobs.specs.Numbers.{drop_told, meets, message_told, place_told,
 ghost use Rattle.refusals.specs.declared.refusal.Refusal.{Refusal as RefusalOf};
 ghost use Rattle.std.specs.Prelude.{◌≡◌};
 
-use refusals::refusal::{Detail, Meeting, Refusal};
+use crate::meeting::Meeting;
+use refusals::refusal::{Detail, Meeting as MeetingTold, Refusal};
 use std::fmt::Display;
 use thiserror::Error;
 
@@ -23,7 +24,7 @@ pub enum TaskFault {
     #[error("no more tasks can be held")]
     Full,
     /// It meets a held task.
-    #[error("it meets task {} on core {} at instant {}", .0.held, .0.place, .0.instant)]
+    #[error("it meets task {} on core {} at instant {}", .0.held, .0.place.number, .0.instant)]
     Meets(Meeting),
 }
 
@@ -49,7 +50,7 @@ pub enum MessageFault {
     #[error("a packet arrives late: the least slack is {0}")]
     Late(i64),
     /// A packet of it meets one of a held message.
-    #[error("it meets message {} on link {} at instant {}", .0.held, .0.place, .0.instant)]
+    #[error("it meets message {} on link {} at instant {}", .0.held, .0.place.number, .0.instant)]
     Meets(Meeting),
 }
 
@@ -95,7 +96,11 @@ fn meets(number: u8, meeting: Meeting) -> Refusal
 {
     Refusal {
         number,
-        detail: Detail::Meeting(meeting),
+        detail: Detail::Meeting(MeetingTold {
+            instant: meeting.instant,
+            held: meeting.held,
+            place: meeting.place.number,
+        }),
     }
 }
 

@@ -1,21 +1,25 @@
-// A job of either kind, as it is offered, and why it is refused.
+//! A job of either kind, and why its offer is refused.
 ghost use Rattle.jobs.specs.Numbers.{job_told};
 ghost use Rattle.std.specs.Prelude.{◌≡◌};
 
 use crate::fault::{MessageFault, TaskFault};
 use records::record::{Message, Task};
 use refusals::refusal::Refusal;
+use thiserror::Error;
 
+/// A task or a message.
 #[derive(Clone, Copy, PartialEq, Eq, Debug)]
 pub enum Job {
     Task(Task),
     Message(Message),
 }
 
-// Why the offer of a job is refused.
-#[derive(Clone, Copy, PartialEq, Eq, Debug)]
+/// Why the offer of a job is refused.
+#[derive(Clone, Copy, PartialEq, Eq, Debug, Error)]
 pub enum JobFault {
+    #[error(transparent)]
     Task(TaskFault),
+    #[error(transparent)]
     Message(MessageFault),
 }
 

@@ -1,26 +1,27 @@
-// What a plan holds, and why an offer is refused: tasks on cores, messages between them, the places that they take and when.
+//! What a plan holds, and why an offer is refused: tasks on cores, messages between them, the places that they take and when.
 #![tactic(auto)]
 
-ghost use Rattle.jobs.specs.Stand.{PacketHolds, SlackFormula, TaskHolds};
+ghost use Rattle.jobs.specs.Stand.{ClaimsRoute, PacketHolds, SlackFormula, TaskHolds, TravelEven};
 
-pub mod board;
 pub mod fault;
 mod held;
 pub mod holder;
 pub mod job;
-mod meeting;
+pub mod meeting;
 pub mod message;
 pub mod open;
-mod packets;
 pub mod place;
 pub mod placing;
+pub mod routing;
 mod stay;
 pub mod task;
 pub mod way;
 
-// Within the limits of tasks and messages the rules pass nothing over.
+/// Within the limits of tasks and messages the rules pass nothing over.
 pub fn rules_stand()
     ensures tasks { TaskHolds }
+    ensures route { ClaimsRoute }
     ensures packets { PacketHolds }
+    ensures travel { TravelEven }
     ensures slack { SlackFormula }
 {}

@@ -1,17 +1,35 @@
-// The first meeting of an offered job with those held.
+//! The first meeting of an offered job with those held.
 ghost use Rattle.holds.specs.Held.{span};
-ghost use Rattle.jobs.specs.Boards.{job_of, setting_of};
-ghost use Rattle.jobs.specs.Meetings.{earliest_from, first_met, meetings, met, shared, sooner};
+ghost use Rattle.jobs.specs.Meetings.{before, earliest_from, first_met, meetings, met, shared, sooner};
+ghost use Rattle.jobs.specs.Routings.{job_of};
 ghost use Rattle.jobs.specs.Ways.{stay_take};
 ghost use Rattle.std.specs.Option.{option_map};
 ghost use Rattle.std.specs.Prelude.{◌≡◌, map};
 
-use crate::board::Board;
 use crate::held::Held;
+use crate::place::Place;
 use crate::stay::Stay;
-use fabric::Fabric;
 use holds::{Hold, first_meeting};
-use refusals::refusal::Meeting;
+
+/// Where an offered job meets a held one: the instant, the name of the held job, and the place that both have then.
+#[derive(Clone, Copy, PartialEq, Eq, Debug)]
+pub struct Meeting {
+    pub instant: u64,
+    pub held: u16,
+    pub place: Place,
+}
+
+impl Meeting {
+    // By the instant, then by the held name, then by the place.
+    fn comes_before(&self, other: &Meeting) -> bool
+        ensures { result ≡ before self.now other.now }
+    {
+        self.instant < other.instant
+            || (self.instant == other.instant
+                && (self.held < other.held
+                    || (self.held == other.held && self.place.comes_before(other.place))))
+    }
+}
 
 // The first instant that lies in both.
 fn shared_instant(one: Option<Hold>, other: Option<Hold>) -> Option<u64>
@@ -25,23 +43,23 @@ fn shared_instant(one: Option<Hold>, other: Option<Hold>) -> Option<u64>
 fn meeting_at(name: u16, own: &Stay, held: &Stay) -> Option<Meeting>
     ensures { result ≡ met name (stay_take own.now) (stay_take held.now) }
 {
-    if own.place != held.place {
+    if !own.place.is(held.place) {
         return None;
     }
     let instant = shared_instant(own.hold, held.hold)?;
     Some(Meeting {
         instant,
         held: name,
-        place: own.place.number(),
+        place: own.place,
     })
 }
 
-// The earlier of two meetings, if there is one. Not the order of options, in which none comes first.
+// The earlier of two meetings, if there is one.
 fn earlier(one: Option<Meeting>, other: Option<Meeting>) -> Option<Meeting>
     ensures { result ≡ sooner one other }
 {
     match (one, other) {
-        (Some(a), Some(b)) => Some(a.min(b)),
+        (Some(a), Some(b)) => Some(if b.comes_before(&a) { b } else { a }),
         _ => one.or(other),
     }
 }
@@ -63,9 +81,9 @@ pub(crate) fn nearest_to(
 }
 
 // The first meeting of an offered job's stays with those of the held jobs.
-pub(crate) fn first_among<B, J: Held<B>>(board: &B, held: &[J], own: &[Stay]) -> Option<Meeting>
-    ensures { result ≡ first_met (map stay_take own.now) (map (job_of J.Named.label (J.Held.takes board.now)) held.now) }
+pub(crate) fn first_among<B, J: Held<B>>(routing: &B, held: &[J], own: &[Stay]) -> Option<Meeting>
+    ensures { result ≡ first_met (map stay_take own.now) (map (job_of J.Named.label (J.Held.takes routing.now)) held.now) }
 {
     held.iter()
-        .fold(None, |best, job| job.nearest(board, best, own))
+        .fold(None, |best, job| job.nearest(routing, best, own))
 }

@@ -1,4 +1,4 @@
-// The places that one job takes, each with its hold there.
+//! The places that one job takes, each with its hold there.
 ghost use Rattle.jobs.specs.Ways.{stay_take, taken};
 ghost use Rattle.std.specs.Prelude.{◌≡◌, map};
 
@@ -17,7 +17,7 @@ pub(crate) struct Stay {
 impl Default for Stay {
     fn default() -> Stay {
         Stay {
-            place: Place::Core(0),
+            place: Place::core(0),
             hold: None,
         }
     }

@@ -5,7 +5,7 @@ use Rattle.std.proofs.lemmas.List.Folds.{fold-map}
 use Rattle.jobs.specs.Meetings.{met, sooner}
 use Rattle.jobs.specs.Takes.{Take}
 use Rattle.jobs.specs.Ways.{stay_take}
-use Rattle.refusals.specs.declared.refusal.Meeting.{Meeting}
+use Rattle.jobs.specs.declared.meeting.Meeting.{Meeting}
 use Rattle.jobs.proofs.meeting.nearest_to.Goals as goal
 
 pub returns : goal.returns

@@ -1,11 +1,11 @@
 use Rattle.std.proofs.Common.{◌≡◌, ℕ, ◌+◌, ◌-◌, ◌<◌, ◌≤◌, Bool, false, List, [], ◌∷◌, map, Some, None, Option, sym, ap, ◌∙◌, subst, ⊎_elim, arith}
 use Rattle.std.proofs.lemmas.Bool.{cases_lt}
 use Rattle.records.specs.declared.record.Task.{Task}
-use Rattle.refusals.specs.declared.refusal.Meeting.{Meeting}
+use Rattle.jobs.specs.declared.meeting.Meeting.{Meeting}
 use Rattle.jobs.specs.declared.open.OpenTask.{OpenTask}
 use Rattle.jobs.specs.Meetings.{first_met, held_task}
 use Rattle.jobs.specs.Open.{task_at}
-use Rattle.jobs.specs.Placings.{clear}
+use Rattle.std.specs.Prelude.{is_none}
 use Rattle.jobs.specs.Takes.{task_takes}
 use Rattle.jobs.specs.Waits.{StillMet}
 use Rattle.jobs.proofs.Searches.{FailsFrom, leap, leap_all, search_found, search_none}
@@ -15,15 +15,15 @@ use Rattle.jobs.proofs.placing.first_phase.Goals as goal
 
 -- whether no held task is met at a phase
 abbrev free : OpenTask → List Task → ℕ → Bool
-free t held v = clear (first_met (task_takes (task_at t v)) (map held_task held))
+free t held v = is_none (first_met (task_takes (task_at t v)) (map held_task held))
 
 abbrev count : OpenTask → ℕ
 count t = t.period + 1 - t.width
 
 -- what the task at a phase meets
 met_at : (t : OpenTask) (held : List Task) (v : ℕ) (u : Task) (o : Option Meeting) → u ≡ task_at t v → o ≡ first_met (task_takes u) (map held_task held)
-    → free t held v ≡ clear o
-met_at t held v u o e is = sym (ap clear (is ∙ ap (λ (x : Task). first_met (task_takes x) (map held_task held)) e))
+    → free t held v ≡ is_none o
+met_at t held v u o e is = sym (ap is_none (is ∙ ap (λ (x : Task). first_met (task_takes x) (map held_task held)) e))
 
 -- and for how long
 fails : (t : OpenTask) (held : List Task) (v : ℕ) (u : Task) (wait : Option ℕ) → u ≡ task_at t v → StillMet (task_takes u) (map held_task held) wait

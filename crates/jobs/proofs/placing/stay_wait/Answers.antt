@@ -1,5 +1,5 @@
 use Rattle.std.proofs.Common.{◌≡◌, true, rules}
-use Rattle.jobs.specs.Takes.{same_place}
+use Rattle.jobs.specs.Places.{same_place}
 use Rattle.jobs.proofs.Waits.{stays_meet}
 use Rattle.jobs.proofs.placing.stay_wait.Goals as goal
 

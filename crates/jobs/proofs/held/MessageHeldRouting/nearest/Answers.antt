@@ -3,7 +3,7 @@ use Rattle.jobs.specs.Meetings.{earliest_from, meetings}
 use Rattle.jobs.specs.Takes.{Take}
 use Rattle.jobs.specs.Ways.{stay_take}
 use Rattle.jobs.proofs.Meets.{takes_none_met}
-use Rattle.jobs.proofs.held.MessageHeldBoard.nearest.Goals as goal
+use Rattle.jobs.proofs.held.MessageHeldRouting.nearest.Goals as goal
 
 pub returns-in_default : goal.returns-in_default
 returns-in_default g c =
