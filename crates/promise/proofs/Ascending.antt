@@ -1,9 +1,10 @@
--- Lists whose names ascend: a record with a higher name goes to the end, and the members alone say the list. Assumes nothing.
+-- Lists whose names ascend: a record with a higher name goes to the end, and the members alone say the list.
 use Rattle.std.proofs.Common.{◌≡◌, ℕ, zero, suc, ◌<◌, true, ltb, List, [], ◌∷◌, ◌++◌, Some, sym, refl, ap, ◌∙◌, ⊎_elim, arith}
 use Rattle.std.specs.List.{slice_get}
 use Rattle.std.proofs.lemmas.Bool.{and_parts, cond-true, lt-ltb, ltb-true}
 use Rattle.records.specs.Named.{add, ascends}
-use Rattle.promise.specs.Clean.{Distinct, In}
+use Rattle.jobs.specs.Jobs.{In}
+use Rattle.promise.specs.Clean.{Distinct}
 use Rattle.promise.proofs.Lists.{in_cases, in_nil, in_right, in_there}
 
 module _ {X : Type 0} where

@@ -1,4 +1,4 @@
--- Every call leaves the held names ascending and the held jobs within the room. Assumes nothing.
+-- Every call leaves the held names ascending and the held jobs within the room.
 use Rattle.std.proofs.Common.{◌≡◌, ℕ, suc, ◌<◌, ◌≤◌, true, false, eqb, List, [], ◌∷◌, map, length, is_some, Some, None, Option, Result, sym, refl, ap, ◌∙◌, arith}
 use Rattle.std.specs.Option.{option_map}
 use Rattle.std.proofs.lemmas.Bool.{cond_both}
@@ -7,22 +7,16 @@ use Rattle.records.specs.declared.record.Task.{Task}
 use Rattle.records.specs.declared.record.Message.{Message}
 use Rattle.records.proofs.Places.{ascends_add, ascends_without, length_add, index_named}
 use Rattle.jobs.specs.declared.fault.DropFault.{DropFault}
-use Rattle.jobs.specs.declared.fault.TaskFault.TheVariants as task_fault
 use Rattle.jobs.specs.declared.open.OpenTask.{OpenTask}
 use Rattle.jobs.specs.declared.open.OpenMessage.{OpenMessage}
 use Rattle.jobs.specs.Drops.{drop_message, drop_task, in_use}
 use Rattle.jobs.specs.Jobs.{Jobs, Setting, message_name, nothing, task_name, with_message, with_task, without_message, without_task}
-use Rattle.jobs.specs.Meetings.{first_met, held_task}
 use Rattle.jobs.specs.Placings.{place_message, place_task}
-use Rattle.jobs.specs.Checks.{packet_refusal}
 use Rattle.jobs.specs.Rules.{message_refusal, offer_message, offer_task, task_refusal}
-use Rattle.jobs.specs.Takes.{task_takes}
-use Rattle.jobs.proofs.Checked.{message_checked}
 use Rattle.promise.specs.Canonical.{Canonical}
-use Rattle.promise.specs.Clean.{In}
-use Rattle.promise.proofs.Kept.{message_offer_kept, message_place_kept, task_offer_kept, task_place_kept}
+use Rattle.jobs.specs.Jobs.{In}
+use Rattle.promise.proofs.Kept.{message_free, task_free, message_offer_kept, message_place_kept, task_offer_kept, task_place_kept}
 use Rattle.promise.proofs.Lists.{apart_none}
-use Rattle.promise.proofs.Passing.{message_passes, task_passes}
 
 -- ---- lists with names that ascend
 
@@ -53,23 +47,23 @@ nothing_canonical = record { tasks = refl; messages = refl; few_tasks = omega ar
 -- a task that no check refuses has a name of its own, and there was room for it
 pub task_canonical : (g : Setting) (js : Jobs) (t : Task) → Canonical js → task_refusal g.network.nodes js t ≡ None → Canonical (with_task js t)
 task_canonical g js t here none =
-    let p = task_passes g js t (option_map task_fault.Meets (first_met (task_takes t) (map held_task js.tasks))) none in
+    let p = task_free g js t none in
     record {
-      tasks = ascends_more task_name t js.tasks p.0.named p.0.fresh here.tasks;
+      tasks = ascends_more task_name t js.tasks p.named p.fresh here.tasks;
       messages = here.messages;
-      few_tasks = omega (arith, length_add task_name t js.tasks, p.0.room);
+      few_tasks = omega (arith, length_add task_name t js.tasks, p.room);
       few_messages = here.few_messages;
     }
 
 -- and so has a message
 pub message_canonical : (g : Setting) (js : Jobs) (m : Message) → Canonical js → message_refusal g js m ≡ None → Canonical (with_message js m)
 message_canonical g js m here none =
-    let p = message_passes g js m (packet_refusal g js m) (sym (message_checked g js m) ∙ none) in
+    let p = (message_free g js m none).1 in
     record {
       tasks = here.tasks;
-      messages = ascends_more message_name m js.messages p.passed.named p.passed.fresh here.messages;
+      messages = ascends_more message_name m js.messages p.named p.fresh here.messages;
       few_tasks = here.few_tasks;
-      few_messages = omega (arith, length_add message_name m js.messages, p.passed.room);
+      few_messages = omega (arith, length_add message_name m js.messages, p.room);
     }
 
 pub task_less_canonical : (js : Jobs) (n : ℕ) → Canonical js → Canonical (without_task js n)

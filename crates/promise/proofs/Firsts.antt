@@ -2,10 +2,12 @@
 use Rattle.std.proofs.Common.{◌≡◌, ℕ, ◌≤◌, true, false, ◌⊎◌, List, [], ◌∷◌, map, Some, None, Option, sym, refl, ap, ◌∙◌, subst, inl, inr, ⊎_elim, arith}
 use Rattle.std.proofs.lemmas.Bool.{cond_both}
 use Rattle.std.proofs.lemmas.Bool.Decides.{nat_tests}
-use Rattle.refusals.specs.declared.refusal.Meeting.{Meeting}
+use Rattle.jobs.specs.declared.meeting.Meeting.{Meeting}
+use Rattle.jobs.specs.declared.place.Place.{Place}
 use Rattle.jobs.specs.Meetings.{HeldJob, all_meetings, before, earliest_from, first_met, meetings, met, sooner}
-use Rattle.jobs.specs.Takes.{Take, number}
-use Rattle.promise.specs.Clean.{In}
+use Rattle.jobs.specs.Places.{place_before}
+use Rattle.jobs.specs.Takes.{Take}
+use Rattle.jobs.specs.Jobs.{In}
 use Rattle.promise.proofs.Lists.{append_in, in_cases, in_here, in_left, in_map, in_nil, in_right, in_there, map_in}
 use Rattle.promise.proofs.Meets.{AllSound, HeldSound, MeetAt, MetFirst, met_none, met_some}
 
@@ -83,11 +85,11 @@ before_not a b c p q = grind (arith, nat_tests)
 before_after : (a b c : Meeting) → before a b ≡ true → before a c ≡ false → before b c ≡ false
 before_after a b c p q = grind (arith, nat_tests)
 
--- what is not before m is no earlier, at its instant has no smaller name, and then no smaller place
+-- what is not before m is no earlier, at its instant has no smaller name, and then no place before it
 record NotBefore (o m : Meeting) : Type 0 where
   instants : m.instant ≤ o.instant
   names : o.instant ≡ m.instant → m.held ≤ o.held
-  places : o.instant ≡ m.instant → o.held ≡ m.held → m.place ≤ o.place
+  places : o.instant ≡ m.instant → o.held ≡ m.held → place_before o.place m.place ≡ false
 
 not_before : (o m : Meeting) → before o m ≡ false → NotBefore o m
 not_before o m e = record { instants = grind (arith, nat_tests); names = λ a. grind (arith, nat_tests); places = λ a b. grind (arith, nat_tests) }
@@ -163,7 +165,7 @@ earliest_least xs m e = (least_from None xs m e).1
 -- ---- the first meeting with all that are held
 
 -- a meeting that happens: none is earlier, at its instant no held job that is met has a smaller name, and with that name no place that
--- is met has a smaller number
+-- is met comes before it
 pub record FirstMet (own : List Take) (held : List HeldJob) (m : Meeting) : Type 0 where
   pub job : HeldJob
   pub mine : Take
@@ -172,12 +174,12 @@ pub record FirstMet (own : List Take) (held : List HeldJob) (m : Meeting) : Type
   pub mine_in : In mine own
   pub theirs_in : In theirs job.takes
   pub named : job.name ≡ m.held
-  pub placed : number mine.place ≡ m.place
+  pub placed : mine.place ≡ m.place
   pub meets : MeetAt mine theirs m.instant
   pub earliest : (h : HeldJob) → In h held → (x y : Take) → In x own → In y h.takes → (n : ℕ) → MeetAt x y n → m.instant ≤ n
   pub least_name : (h : HeldJob) → In h held → (x y : Take) → In x own → In y h.takes → MeetAt x y m.instant → m.held ≤ h.name
   pub least_place : (h : HeldJob) → In h held → (x y : Take) → In x own → In y h.takes → MeetAt x y m.instant → h.name ≡ m.held
-      → m.place ≤ number x.place
+      → place_before x.place m.place ≡ false
 
 module _ (own : List Take) (held : List HeldJob) (own_sound : AllSound own) (held_sound : HeldSound held) where
   -- takes that meet have a first meeting, which is compared
@@ -219,9 +221,9 @@ module _ (own : List Take) (held : List HeldJob) (own_sound : AllSound own) (hel
       by_name h k x y a b at = let c = compare h k x y a b m.instant at in omega (arith, (after c).names (level c at), c.first.1)
 
       by_place : (h : HeldJob) → In h held → (x y : Take) → In x own → In y h.takes → MeetAt x y m.instant → h.name ≡ m.held
-          → m.place ≤ number x.place
+          → place_before x.place m.place ≡ false
       by_place h k x y a b at is =
-          let c = compare h k x y a b m.instant at in omega (arith, (after c).places (level c at) (c.first.1 ∙ is), c.first.2)
+          let c = compare h k x y a b m.instant at in subst (λ (p : Place). place_before p m.place ≡ false) c.first.2 ((after c).places (level c at) (c.first.1 ∙ is))
 
       go : MetBy own held (Some m) → FirstMet own held m
       go b =

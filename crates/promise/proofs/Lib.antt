@@ -4,7 +4,7 @@ pub mod Firsts
 pub mod Lateness
 pub mod Takes
 pub mod Tasks
-pub mod Packets
+pub mod Offered
 pub mod Messages
 pub mod Passing
 pub mod Keeps
@@ -17,8 +17,6 @@ pub mod Parts
 pub mod Ascending
 pub mod Early
 pub mod Droppings
-pub mod Checks
 pub mod Placing
 pub mod Tabled
 pub mod Room
-pub mod Places

@@ -1,10 +1,11 @@
--- Members of lists, and lists of records whose names are distinct. Assumes nothing.
+-- Members of lists, and lists of records whose names are distinct.
 use Rattle.std.proofs.Common.{◌≡◌, ℕ, zero, suc, true, false, cond, eqb, ltb, ◌⊎◌, List, [], ◌∷◌, ◌++◌, map, is_some, Some, None, sym, refl, ap, ◌∙◌, inl, inr, ⊎_elim, arith}
 use Rattle.std.specs.Option.{option_map}
 use Rattle.std.proofs.lemmas.Bool.{cond_both, cond-true, cond-false, eq-eqb, eqb-false, eqb-true, ne_eqb, both_ways}
 use Rattle.records.specs.Named.{named, index_of, add, without}
 use Rattle.records.proofs.Places.{some_on}
-use Rattle.promise.specs.Clean.{In, Distinct}
+use Rattle.jobs.specs.Jobs.{In}
+use Rattle.promise.specs.Clean.{Distinct}
 
 -- ---- members
 

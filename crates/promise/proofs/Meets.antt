@@ -4,20 +4,20 @@
 --   MetFirst   what is told is a meeting of the two takes, and the first of all time
 use Rattle.std.proofs.Common.{◌≡◌, ℕ, ◌≤◌, true, List, map, Some, None, Option, sym, refl, ap, ◌∙◌, subst}
 use Rattle.std.specs.Option.{option_map}
-use Rattle.std.proofs.lemmas.Bool.{cond_both, cond-true, eq-eqb, eqb-true}
+use Rattle.std.proofs.lemmas.Bool.{cond_both, cond-true}
 use Rattle.holds.specs.First.{IsFirst, first}
 use Rattle.holds.specs.Span.{Busy, Proper, Span}
 use Rattle.holds.proofs.First.{first_is}
 use Rattle.records.specs.declared.record.Task.{Task}
 use Rattle.records.specs.declared.record.Message.{Message}
-use Rattle.refusals.specs.declared.refusal.Meeting.{Meeting}
-use Rattle.jobs.specs.Jobs.{Setting}
+use Rattle.jobs.specs.declared.meeting.Meeting.{Meeting}
+use Rattle.jobs.specs.Jobs.{In, Setting}
 use Rattle.jobs.specs.Meetings.{HeldJob, at_instant, held_message, held_task, met, shared}
 use Rattle.jobs.specs.declared.place.Place.{Place}
-use Rattle.jobs.specs.declared.place.Place.TheVariants.{Core, Link}
-use Rattle.jobs.specs.Takes.{Take, core, link, message_takes, number, same_place, task_takes}
+use Rattle.jobs.specs.Places.{same_place}
+use Rattle.jobs.specs.Takes.{Take, message_takes, task_takes}
+use Rattle.jobs.proofs.PlaceLemmas.{same_place_refl, same_place_true}
 use Rattle.jobs.proofs.Holders.{message_fit, messages_fit, task_fit, tasks_fit}
-use Rattle.promise.specs.Clean.{In}
 
 -- two takes of one place both hold it at the instant n
 pub record MeetAt (x y : Take) (n : ℕ) : Type 0 where
@@ -58,16 +58,6 @@ messages_sound g ts ms h (k, at) x (i, e) = messages_fit g ts ms k h at i x e
 
 -- ---- the meeting of two takes
 
-pub same_place_true : (p q : Place) → same_place p q ≡ true → p ≡ q
-same_place_true (Core a) (Core b) e = ap core (eqb-true a b e)
-same_place_true (Core a) (Link b) e = cc
-same_place_true (Link a) (Core b) e = cc
-same_place_true (Link a) (Link b) e = ap link (eqb-true a b e)
-
-pub same_place_refl : (p : Place) → same_place p p ≡ true
-same_place_refl (Core a) = eq-eqb a a refl
-same_place_refl (Link a) = eq-eqb a a refl
-
 -- an option that a function was put on comes from one
 mapped_some : {A B : Type 0} (f : A → B) (o : Option A) (b : B) → option_map f o ≡ Some b → (a : A) × (o ≡ Some a) × (f a ≡ b)
 mapped_some f None b e = cc
@@ -101,7 +91,7 @@ shared_none h k ph pk e n a b = let f : IsFirst h k None = subst (IsFirst h k) e
 
 -- what met tells of two takes
 abbrev pub MetFirst : ℕ → Take → Take → Meeting → Type 0
-MetFirst name x y m = MeetAt x y m.instant × (m.held ≡ name) × (m.place ≡ number x.place) × ((n : ℕ) → MeetAt x y n → m.instant ≤ n)
+MetFirst name x y m = MeetAt x y m.instant × (m.held ≡ name) × (m.place ≡ x.place) × ((n : ℕ) → MeetAt x y n → m.instant ≤ n)
 
 -- a meeting that is told happens, and is the first of all time
 pub met_some : (name : ℕ) (x y : Take) (m : Meeting) → Sound x → Sound y → met name x y ≡ Some m → MetFirst name x y m

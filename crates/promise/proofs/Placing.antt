@@ -1,98 +1,64 @@
 -- Past the checks that leave phase and delay out, a value is taken exactly where it is neither late nor meets anything.
-use Rattle.std.proofs.Common.{◌≡◌, ℕ, ◌+◌, ◌-◌, ◌<◌, not, leb, map, length, Some, None, Err, Option, sym, refl, ap, ◌∙◌, arith}
-use Rattle.std.specs.Option.{ok_or, option_map}
-use Rattle.std.proofs.lemmas.Bool.{cond-false, lt-leb}
-use Rattle.std.proofs.lemmas.Bool.Decides.{nat_tests}
+use Rattle.std.proofs.Common.{◌≡◌, ℕ, ◌+◌, ◌-◌, ◌<◌, map, Some, None, Ok, Option, sym, refl, ap, ◌∙◌, arith}
+use Rattle.std.specs.Option.{option_map}
+use Rattle.std.specs.Prelude.{is_none}
 use Rattle.holds.specs.Search.{first_from}
-use Rattle.records.specs.declared.record.Task.{Task}
-use Rattle.jobs.specs.declared.fault.TaskFault.{TaskFault}
 use Rattle.jobs.specs.declared.fault.TaskFault.TheVariants as task_fault
-use Rattle.jobs.specs.declared.fault.MessageFault.{MessageFault}
-use Rattle.jobs.specs.declared.fault.PlacingFault.{PlacingFault}
-use Rattle.jobs.specs.declared.fault.PlacingFault.TheVariants as placing
 use Rattle.jobs.specs.declared.open.OpenTask.{OpenTask}
 use Rattle.jobs.specs.declared.open.OpenMessage.{OpenMessage}
-use Rattle.jobs.specs.Jobs.{Setting, Jobs, task_name}
+use Rattle.jobs.specs.Checks.{admitted_message, admitted_task}
+use Rattle.jobs.specs.Jobs.{Jobs, Setting, task_named}
 use Rattle.jobs.specs.Meetings.{first_met, held_task}
 use Rattle.jobs.specs.Open.{message_at, task_at}
-use Rattle.jobs.specs.Past.{MessagePast, TaskPast}
-use Rattle.jobs.specs.Placings.{clear, delays, first_delay, first_phase, message_placed, on_way, place_message, place_task, task_placed}
-use Rattle.jobs.specs.Checks.{packet_refusal, task_checks}
-use Rattle.jobs.specs.Rules.{message_refusal, name_taken, task_timely}
+use Rattle.jobs.specs.Placings.{delays, first_delay, first_phase}
+use Rattle.jobs.specs.Rules.{message_refusal, packet_refusal, refusal_past, run_refusal, task_refusal}
 use Rattle.jobs.specs.Takes.{task_takes}
-use Rattle.jobs.proofs.Checked.{message_checked}
+use Rattle.jobs.specs.Trips.{Trip}
 use Rattle.jobs.proofs.Searches.{first_same}
-use Rattle.promise.proofs.Checks.{passed}
+use Rattle.promise.specs.Offers.{MessagePassed, TaskPassed}
+use Rattle.promise.proofs.Passing.{message_admitted, message_passes, task_admitted, task_passes}
+use Rattle.promise.proofs.Takes.{trip_parts}
 
-clear_mapped : {X E : Type 0} (f : X → E) (o : Option X) → clear (option_map f o) ≡ clear o
-clear_mapped f None = refl
-clear_mapped f (Some x) = refl
-
--- a task past the checks goes on to what else refuses
-pub task_passed : (nodes : ℕ) (js : Jobs) (t : Task) → TaskPast nodes js t → (rest : Option TaskFault) → task_checks nodes js t rest ≡ rest
-task_passed nodes js t p rest =
-    cond-false (name_taken task_name t.name js.tasks) _ _ p.fresh
-    ∙ cond-false (leb nodes t.core) _ _ (lt-leb nodes t.core p.inside)
-    ∙ cond-false (not (task_timely t)) _ _ (ap not p.timely)
-    ∙ cond-false (leb 64 (length js.tasks)) _ _ (lt-leb 64 (length js.tasks) p.room)
+none_mapped : {X E : Type 0} (f : X → E) (o : Option X) → is_none (option_map f o) ≡ is_none o
+none_mapped f None = refl
+none_mapped f (Some x) = refl
 
 -- what passes with phase 0 passes with every phase of the range
-other_phase : (nodes : ℕ) (js : Jobs) (t : OpenTask) → TaskPast nodes js (task_at t 0) → (v : ℕ) → v < t.period + 1 - t.width → TaskPast nodes js (task_at t v)
-other_phase nodes js t p v lt = let e = p.timely in record { fresh = p.fresh; inside = p.inside; timely = grind (arith, nat_tests); room = p.room }
+other_phase : (g : Setting) (js : Jobs) (t : OpenTask) → TaskPassed g js (task_at t 0) → (v : ℕ) → v < t.period + 1 - t.width → TaskPassed g js (task_at t v)
+other_phase g js t p v lt =
+    record {
+      named = p.named;
+      fresh = p.fresh;
+      on_core = p.on_core;
+      some_period = p.some_period;
+      short = p.short;
+      some = p.some;
+      narrow = p.narrow;
+      fits = omega (arith, p.narrow, lt);
+      room = p.room;
+    }
 
-module _ (g : Setting) (js : Jobs) (t : OpenTask) (p : TaskPast g.network.nodes js (task_at t 0)) where
-  -- so the smallest phase is the first that meets nothing
-  pub phases : (o : Option ℕ) → o ≡ first_from (λ v. clear (first_met (task_takes (task_at t v)) (map held_task js.tasks))) (t.period + 1 - t.width) 0 → o ≡ first_phase g js t
-  phases o e =
-      e ∙ sym (first_same _ _ (t.period + 1 - t.width) (λ v lt.
-      ap clear (task_passed g.network.nodes js (task_at t v) (other_phase g.network.nodes js t p v lt) (option_map task_fault.Meets (first_met (task_takes (task_at t v)) (map held_task js.tasks))))
-      ∙ clear_mapped task_fault.Meets (first_met (task_takes (task_at t v)) (map held_task js.tasks))))
-
-  -- and the placing goes by it
-  pub task_goes : (o : Option ℕ) → o ≡ first_phase g js t → place_task g js t ≡ task_placed js t None o
-  task_goes o e =
-      ap (λ c. task_placed js t c (first_phase g js t)) (task_passed g.network.nodes js (task_at t 0) p None)
-      ∙ ap (task_placed js t None) (sym e)
+-- so the smallest phase is the first that meets nothing
+pub phases : (g : Setting) (js : Jobs) (t : OpenTask) → admitted_task g.network.nodes js (task_at t 0) ≡ Ok tt → (o : Option ℕ)
+    → o ≡ first_from (λ v. is_none (first_met (task_takes (task_at t v)) (map held_task js.tasks))) (t.period + 1 - t.width) 0 → o ≡ first_phase g js t
+phases g js t admitted o e =
+    let p = task_passes g js (task_at t 0) admitted in
+    e ∙ sym (first_same _ _ (t.period + 1 - t.width) (λ v lt.
+    ap (λ r. is_none (refusal_past r (λ _. run_refusal js (task_at t v)))) (task_admitted g js (task_at t v) (other_phase g js t p v lt))
+    ∙ none_mapped task_fault.Meets (first_met (task_takes (task_at t v)) (map held_task js.tasks))))
 
 -- what passes with delay 0 passes with every delay of the range
-other_delay : (g : Setting) (js : Jobs) (m : OpenMessage) (s d : Task) → MessagePast g js (message_at m 0) s d → (v : ℕ) → v < s.period → MessagePast g js (message_at m v) s d
-other_delay g js m s d p v lt =
-    let e = p.ends.timely in
-    record { ends = record { fresh = p.ends.fresh; from = p.ends.from; to = p.ends.to; timely = grind (arith, nat_tests) }; way = p.way }
+other_delay : (g : Setting) (js : Jobs) (m : OpenMessage) (t : Trip) → MessagePassed g js (message_at m 0) t → (v : ℕ) → v < t.source.period → MessagePassed g js (message_at m v) t
+other_delay g js m t p v lt =
+    record { named = p.named; fresh = p.fresh; going = p.going; kind = p.kind; delay = lt; some = p.some; fits = p.fits; room = p.room }
 
-module _ (g : Setting) (js : Jobs) (m : OpenMessage) (s d : Task) (p : MessagePast g js (message_at m 0) s d) where
-  -- an offer with a delay of the range is refused for lateness or a meeting, or not at all
-  refused_on_way : (v : ℕ) → v < s.period → message_refusal g js (message_at m v) ≡ on_way g js (message_at m v) s d (g.network.route s.core d.core)
-  unfolding other_delay
-  refused_on_way v lt =
-      message_checked g js (message_at m v)
-      ∙ passed g js (message_at m v) s d (other_delay g js m s d p v lt) (packet_refusal g js (message_at m v))
-      ∙ sym (ap (on_way g js (message_at m v) s d) p.way.along)
-
-  -- so the smallest delay is the first that is neither late nor meets anything
-  pub delays_are : (o : Option ℕ) → o ≡ first_from (λ v. clear (on_way g js (message_at m v) s d (g.network.route s.core d.core))) s.period 0 → o ≡ first_delay g js m
-  delays_are o e =
-      e ∙ sym (first_same _ _ s.period (λ v lt. ap clear (refused_on_way v lt)))
-      ∙ ap (λ t. first_from (λ v. clear (message_refusal g js (message_at m v))) (delays t) 0) (sym p.ends.from)
-
-  -- and the placing goes by it
-  pub message_goes : (o : Option ℕ) → o ≡ first_delay g js m → place_message g js m ≡ message_placed js m None o
-  message_goes o e =
-      ap (λ c. message_placed js m c (first_delay g js m)) (passed g js (message_at m 0) s d p (λ s d r. None))
-      ∙ ap (message_placed js m None) (sym e)
-
--- a refused placing leaves what was held
-pub message_stays : (js : Jobs) (m : OpenMessage) (c : Option MessageFault) (o : Option ℕ) (e : PlacingFault MessageFault)
-    → Err e ≡ (message_placed js m c o).0 → js ≡ (message_placed js m c o).1
-message_stays js m (Some x) o e is = refl
-message_stays js m None None e is = refl
-message_stays js m None (Some v) e is = cc
-
--- past the checks a placing answers the value, or that none fits
-pub task_answers : (js : Jobs) (t : OpenTask) (o : Option ℕ) → (task_placed js t None o).0 ≡ ok_or o placing.NoFit
-task_answers js t None = refl
-task_answers js t (Some v) = refl
-
-pub message_answers : (js : Jobs) (m : OpenMessage) (o : Option ℕ) → (message_placed js m None o).0 ≡ ok_or o placing.NoFit
-message_answers js m None = refl
-message_answers js m (Some v) = refl
+-- so the smallest delay is the first that is neither late nor meets anything
+pub delays_are : (g : Setting) (js : Jobs) (m : OpenMessage) (t : Trip) → admitted_message g js (message_at m 0) ≡ Ok t → (o : Option ℕ)
+    → o ≡ first_from (λ v. is_none (packet_refusal g js (message_at m v) t)) t.source.period 0 → o ≡ first_delay g js m
+delays_are g js m t admitted o e =
+    let p = message_passes g js (message_at m 0) t admitted in
+    let parts = trip_parts g.network (task_named js.tasks m.source) (task_named js.tasks m.destination) t p.going in
+    e
+    ∙ sym (first_same _ _ t.source.period (λ v lt.
+    ap (λ r. is_none (refusal_past r (packet_refusal g js (message_at m v)))) (message_admitted g js (message_at m v) t (other_delay g js m t p v lt))))
+    ∙ ap (λ s. first_from (λ v. is_none (message_refusal g js (message_at m v))) (delays s) 0) (sym parts.source)

@@ -9,9 +9,6 @@ use Rattle.records.specs.declared.tables.Full.{Full}
 use Rattle.records.specs.declared.tables.Table.{Table}
 use Rattle.jobs.specs.Jobs.{Setting, message_name, task_name, with_message, with_task, without_message, without_task}
 use Rattle.jobs.specs.Rules.{message_refusal, task_refusal}
-use Rattle.jobs.specs.Checks.{packet_refusal}
-use Rattle.jobs.specs.Meetings.{first_met, held_task}
-use Rattle.jobs.proofs.Checked.{message_checked}
 use Rattle.promise.specs.Tabled.{tabled}
 use Rattle.promise.proofs.Room.{message_room, task_room}
 

@@ -1,190 +1,140 @@
--- Offers of tasks to a clean plan: taken exactly where the plan stays clean.
-use Rattle.std.proofs.Common.{◌≡◌, ℕ, false, ◌⊎◌, List, [], ◌∷◌, map, is_some, Some, None, Ok, Err, Option, Result, sym, refl, ap, ◌∙◌, subst, inl, inr, ⊎_elim, arith}
+-- Offers of tasks to a clean plan: taken exactly where the plan stays safe.
+use Rattle.std.proofs.Common.{◌≡◌, ℕ, ◌⊎◌, List, map, Some, None, Ok, Err, Option, Result, sym, refl, ap, ◌∙◌, subst, inl, inr, ⊎_elim}
 use Rattle.std.specs.Option.{option_map}
-use Rattle.std.proofs.lemmas.Bool.{ne_eqb, or_from}
-use Rattle.std.proofs.lemmas.Option.{same_Some}
-use Rattle.holds.specs.Span.{RunHolds, Span}
-use Rattle.holds.proofs.Busy.{run_only}
-use Rattle.records.specs.Named.{add, index_of}
-use Rattle.records.proofs.Places.{index_named}
+use Rattle.fabric.specs.Network.{IsFabric}
+use Rattle.records.specs.Named.{add}
 use Rattle.records.specs.declared.record.Task.{Task}
 use Rattle.records.specs.declared.record.Message.{Message}
-use Rattle.refusals.specs.declared.refusal.Meeting.{Meeting}
 use Rattle.jobs.specs.declared.fault.TaskFault.{TaskFault}
 use Rattle.jobs.specs.declared.fault.TaskFault.TheVariants as task_fault
-use Rattle.jobs.specs.Jobs.{Jobs, Setting, task_name, task_named, with_task}
+use Rattle.jobs.specs.declared.job.Job.{Job}
+use Rattle.jobs.specs.declared.job.Job.TheVariants as job
+use Rattle.jobs.specs.declared.meeting.Meeting.{Meeting}
+use Rattle.jobs.specs.declared.place.Place.{Place}
+use Rattle.jobs.specs.Claims.{claims, claims_on}
+use Rattle.jobs.specs.Jobs.{In, IsHeld, Jobs, Setting, task_name, task_named, with_task}
 use Rattle.jobs.specs.Meetings.{first_met, held_task}
-use Rattle.jobs.specs.Past.{TaskPast}
-use Rattle.jobs.specs.Rules.{offer_task, offered, task_refusal}
-use Rattle.jobs.specs.Takes.{core, number, task_take, task_takes, task_span}
-use Rattle.jobs.proofs.Limits.{task_holds}
-use Rattle.promise.proofs.Placing.{task_passed}
-use Rattle.promise.specs.Clean.{Clean, In, MessageMade, PacketTakes, RunTakes, TaskMade, Ways}
-use Rattle.promise.specs.Offers.{FirstMeeting, TaskOffer, TaskPassed, TaskWhy, TasksMeet}
-use Rattle.promise.proofs.Firsts.{FirstMet, first_met_none, first_met_some}
-use Rattle.promise.proofs.Lists.{add_new, add_old, apart_none, distinct_add_apart, in_add, in_cases, in_map, in_nil, map_in, named_add_other, named_in}
-use Rattle.promise.proofs.Meets.{MeetAt, task_takes_sound, tasks_sound}
-use Rattle.promise.proofs.Takes.{span_made, timely_made}
-
--- ---- two tasks on one core, by the rules' takes and by runs
-
-lone_in : {X : Type 0} (x y : X) → In y (x ∷ []) → y ≡ x
-lone_in x y k = ⊎_elim (λ e. e) (λ j. absurd (in_nil y j)) (in_cases x y [] k)
-
-module _ (g : Setting) (t u : Task) (tm : TaskMade g t) (um : TaskMade g u) where
-  takes_meet : (n c : ℕ) → TasksMeet t u n c → MeetAt (task_take t) (task_take u) n
-  takes_meet n c (k, j, a, b) =
-      record {
-        same = ap core (a.0 ∙ sym b.0);
-        mine = task_span t;
-        theirs = task_span u;
-        mine_is = task_holds t (timely_made g t tm);
-        theirs_is = task_holds u (timely_made g u um);
-        mine_busy = (k, a.1);
-        theirs_busy = (j, b.1);
-      }
-
-  runs_meet : (n : ℕ) → MeetAt (task_take t) (task_take u) n → TasksMeet t u n t.core
-  runs_meet n m =
-      let mine : m.mine ≡ task_span t = same_Some _ _ (sym m.mine_is ∙ task_holds t (timely_made g t tm)) in
-      let theirs : m.theirs ≡ task_span u = same_Some _ _ (sym m.theirs_is ∙ task_holds u (timely_made g u um)) in
-      let same : u.core ≡ t.core = ap number (sym m.same) in (
-        m.mine_busy.0,
-        m.theirs_busy.0,
-        (refl, subst (λ (h : Span). RunHolds h m.mine_busy.0 n) mine m.mine_busy.1),
-        (same, subst (λ (h : Span). RunHolds h m.theirs_busy.0 n) theirs m.theirs_busy.1),
-      )
+use Rattle.jobs.specs.Rules.{offer_task, offered, refusal_past, run_refusal, task_refusal}
+use Rattle.jobs.specs.Takes.{task_takes}
+use Rattle.jobs.specs.Trips.{Trip, trip_of}
+use Rattle.promise.specs.Clean.{Clean, MessageMade, OnTime, Safe, TaskMade, Uses}
+use Rattle.promise.specs.Offers.{FirstMeeting, Meets, TaskOffer, TaskPassed, TaskWhy}
+use Rattle.promise.proofs.Lists.{add_new, add_old, distinct_add_apart, in_add, named_add_other, named_in}
+use Rattle.promise.proofs.Offered.{first_meets, none_meets}
+use Rattle.promise.proofs.Passing.{task_admitted}
+use Rattle.promise.proofs.Takes.{Parted, Whole, kinds_apart, same_run, task_whole, trip_is, trip_parts, uses_as}
 
 module _ (g : Setting) (js : Jobs) (t : Task) (clean : Clean g js) (p : TaskPassed g js t) where
   own_made : TaskMade g t
   own_made = record { named = p.named; on_core = p.on_core; short = p.short; some = p.some; fits = p.fits }
 
-  -- none of the conditions of the checks holds, so no check answers
-  pub past : TaskPast g.network.nodes js t
-  past =
-      let none : is_some (index_of task_name t.name js.tasks) ≡ false =
-      index_named task_name t.name js.tasks ∙ ap is_some (apart_none task_name t.name js.tasks p.fresh) in
-      record {
-        fresh = or_from _ _ (ne_eqb t.name 0 (λ e. let z = p.named in omega arith)) none;
-        inside = p.on_core;
-        timely = timely_made g t own_made;
-        room = p.room;
-      }
+  own_whole : Whole g js (job.Task t)
+  own_whole = task_whole g js t own_made
 
-  pub refusal_is : task_refusal g.network.nodes js t ≡ option_map task_fault.Meets (first_met (task_takes t) (map held_task js.tasks))
-  refusal_is = task_passed g.network.nodes js t past (option_map task_fault.Meets (first_met (task_takes t) (map held_task js.tasks)))
+  tasks_whole : (u : Task) → In u js.tasks → Whole g js (job.Task u)
+  tasks_whole u i = task_whole g js u (clean.made.tasks u i)
 
   -- where no meeting is found, no run of a held task ever has the core with one of the offered task
-  apart : first_met (task_takes t) (map held_task js.tasks) ≡ None → (u : Task) → In u js.tasks → (n c : ℕ) → TasksMeet t u n c → ⊥
-  apart none u k n c m =
-      first_met_none (task_takes t) (map held_task js.tasks) (task_takes_sound t) (tasks_sound js.tasks) none
-      (held_task u) (in_map held_task u js.tasks k) (task_take t) (task_take u) (0, refl) (0, refl) n
-      (takes_meet g t u own_made (clean.tasks u k) n c m)
+  apart : first_met (task_takes t) (map held_task js.tasks) ≡ None → (u : Task) → In u js.tasks → (n : ℕ) (c : Place) → Meets g js (job.Task t) (job.Task u) n c → ⊥
+  apart none u k n c = none_meets g js (job.Task t) own_whole task_name (λ u. job.Task u) js.tasks tasks_whole none u k n c
 
-  -- a meeting that is found is the first
-  first_is : (m : Meeting) → first_met (task_takes t) (map held_task js.tasks) ≡ Some m → FirstMeeting (λ u. u.name) js.tasks (TasksMeet t) m
-  first_is m e = go (map_in held_task f.job js.tasks f.job_in)
-    where
-      f : FirstMet (task_takes t) (map held_task js.tasks) m
-      f = first_met_some (task_takes t) (map held_task js.tasks) (task_takes_sound t) (tasks_sound js.tasks) m e
-
-      go : (u : Task) × In u js.tasks × (held_task u ≡ f.job) → FirstMeeting (λ u. u.name) js.tasks (TasksMeet t) m
-      go (u, k, is) =
-          let mine : f.mine ≡ task_take t = lone_in (task_take t) f.mine f.mine_in in
-          let theirs : f.theirs ≡ task_take u = lone_in (task_take u) f.theirs (subst (λ h. In f.theirs h.takes) (sym is) f.theirs_in) in
-          let place : t.core ≡ m.place = ap (λ x. number x.place) (sym mine) ∙ f.placed in
-          let at : MeetAt (task_take t) (task_take u) m.instant = subst (λ x. MeetAt x (task_take u) m.instant) mine (subst (λ y. MeetAt f.mine y m.instant) theirs f.meets) in
-          record {
-            job = u;
-            is_held = k;
-            is_named = ap (λ h. h.name) is ∙ f.named;
-            meets = subst (TasksMeet t u m.instant) place (runs_meet g t u own_made (clean.tasks u k) m.instant at);
-            earliest = λ x i n c h. f.earliest (held_task x) (in_map held_task x js.tasks i) (task_take t) (task_take x) (0, refl) (0, refl) n (takes_meet g t x own_made (clean.tasks x i) n c h);
-            smallest = λ x i c h. f.least_name (held_task x) (in_map held_task x js.tasks i) (task_take t) (task_take x) (0, refl) (0, refl) (takes_meet g t x own_made (clean.tasks x i) m.instant c h);
-            lowest = λ x i nm c h. let on : t.core ≡ c = h.2.0 in omega (arith, place);
-          }
+  first_is : (m : Meeting) → first_met (task_takes t) (map held_task js.tasks) ≡ Some m → FirstMeeting task_name js.tasks (λ u. Meets g js (job.Task t) (job.Task u)) m
+  first_is m e = first_meets g js (job.Task t) own_whole task_name (λ u. job.Task u) js.tasks tasks_whole m e
 
   -- ---- the plan with the task
 
   -- other names find the same task as before
-  lookup : (n : ℕ) (s : Task) → task_named js.tasks n ≡ Some s → task_named (add task_name t js.tasks) n ≡ task_named js.tasks n
+  lookup : (n : ℕ) (s : Task) → task_named js.tasks n ≡ Some s → task_named (add task_name t js.tasks) n ≡ Some s
   lookup n s e =
       let k = named_in task_name n s js.tasks e in
-      named_add_other task_name n t js.tasks (λ same. p.fresh s k.0 (k.1 ∙ sym same))
+      named_add_other task_name n t js.tasks (λ same. p.fresh s k.0 (k.1 ∙ sym same)) ∙ e
 
-  -- a held message has the same tasks and route as before
-  ways_keep : (m : Message) (s d : Task) (r : List ℕ) → Ways g js.tasks m s d r → Ways g (add task_name t js.tasks) m s d r
-  ways_keep m s d r w = record { from = lookup m.source s w.from ∙ w.from; to = lookup m.destination d w.to ∙ w.to; along = w.along }
+  -- so a held message goes on the same trip
+  trip_keeps : (m : Message) (h : MessageMade g js.tasks m) → trip_of g (add task_name t js.tasks) m ≡ Some h.trip
+  trip_keeps m h =
+      let parts = trip_parts g.network (task_named js.tasks m.source) (task_named js.tasks m.destination) h.trip h.going in
+      trip_is g.network (task_named (add task_name t js.tasks) m.source) (task_named (add task_name t js.tasks) m.destination) h.trip
+      (record { source = lookup m.source h.trip.source parts.source; destination = lookup m.destination h.trip.destination parts.destination; along = parts.along })
 
-  message_keeps : (m : Message) → MessageMade g js.tasks m → MessageMade g (add task_name t js.tasks) m
-  message_keeps m h =
-      record {
-        named = h.named;
-        source = h.source;
-        destination = h.destination;
-        route = h.route;
-        ways = ways_keep m h.source h.destination h.route h.ways;
-        kind = h.kind;
-        delay = h.delay;
-        some = h.some;
-        fits = h.fits;
-        on_time = h.on_time;
-      }
+  same_trip : (m : Message) (h : MessageMade g js.tasks m) → trip_of g (add task_name t js.tasks) m ≡ trip_of g js.tasks m
+  same_trip m h = trip_keeps m h ∙ sym h.going
 
-  -- and its packets have the same links at the same instants
-  packet_back : (m : Message) → MessageMade g js.tasks m → (k l n : ℕ) → PacketTakes g (add task_name t js.tasks) m k l n → PacketTakes g js.tasks m k l n
-  packet_back m h k l n x =
-      let w = h.ways in
-      let from = sym (lookup m.source h.source w.from) ∙ x.ways.from in
-      let to = sym (lookup m.destination h.destination w.to) ∙ x.ways.to in
-      record {
-        source = x.source;
-        destination = x.destination;
-        route = x.route;
-        ways = record { from = from; to = to; along = x.ways.along };
-        place = x.place;
-        at = x.at;
-        holds = x.holds;
-      }
+  -- and has the same places at the same instants
+  packet_back : (m : Message) → In m js.messages → (k n : ℕ) (c : Place) → Uses g (with_task js t) (job.Message m) k c n → Uses g js (job.Message m) k c n
+  packet_back m i k n c = uses_as g (with_task js t) js (job.Message m) (ap (claims_on g.network m) (same_trip m (clean.made.messages m i))) k n c
 
-  -- with a task that meets none, the plan is clean
+  run_back : (u : Task) (k n : ℕ) (c : Place) → Uses g (with_task js t) (job.Task u) k c n → Uses g js (job.Task u) k c n
+  run_back u = uses_as g (with_task js t) js (job.Task u) refl
+
+  message_keeps : (m : Message) → In m js.messages → MessageMade g (add task_name t js.tasks) m
+  message_keeps m i =
+      let h = clean.made.messages m i in
+      record { named = h.named; trip = h.trip; going = trip_keeps m h; kind = h.kind; delay = h.delay; some = h.some; fits = h.fits }
+
+  on_time_keeps : (m : Message) → In m js.messages → OnTime g (add task_name t js.tasks) m
+  on_time_keeps m i =
+      let h = clean.safe.on_time m i in
+      record { trip = h.trip; going = same_trip m (clean.made.messages m i) ∙ h.going; in_time = h.in_time }
+
+  runs : first_met (task_takes t) (map held_task js.tasks) ≡ None → (a b : Task) → (a ≡ t) ⊎ In a js.tasks → (b ≡ t) ⊎ In b js.tasks → (k l n : ℕ) (c : Place)
+      → Uses g js (job.Task a) k c n → Uses g js (job.Task b) l c n → (job.Task a ≡ job.Task b) × (k ≡ l)
+  runs none a b (inl e) (inl f) k l n c x y = (
+    ap (λ u. job.Task u) (e ∙ sym f),
+    same_run g js (job.Task t) own_whole k l n c (subst (λ u. Uses g js (job.Task u) k c n) e x) (subst (λ u. Uses g js (job.Task u) l c n) f y),
+  )
+  runs none a b (inl e) (inr j) k l n c x y = absurd (apart none b j n c (k, l, subst (λ u. Uses g js (job.Task u) k c n) e x, y))
+  runs none a b (inr i) (inl f) k l n c x y = absurd (apart none a i n c (l, k, subst (λ u. Uses g js (job.Task u) l c n) f y, x))
+  runs none a b (inr i) (inr j) k l n c x y = clean.safe.apart (job.Task a) (job.Task b) i j k l c n x y
+
+  -- with a task that meets none, the plan is safe
+  safe : first_met (task_takes t) (map held_task js.tasks) ≡ None → Safe g (with_task js t)
+  safe none = record { apart = pairs; on_time = on_time_keeps }
+    where
+      pairs : (x y : Job) → IsHeld (with_task js t) x → IsHeld (with_task js t) y → (k l : ℕ) (c : Place) (n : ℕ)
+          → Uses g (with_task js t) x k c n → Uses g (with_task js t) y l c n → (x ≡ y) × (k ≡ l)
+      pairs (job.Task a) (job.Task b) i j k l c n u v =
+          runs none a b (in_add task_name t a js.tasks i) (in_add task_name t b js.tasks j) k l n c (run_back a k n c u) (run_back b l n c v)
+      pairs (job.Task a) (job.Message b) i j k l c n u v = absurd (kinds_apart g g (with_task js t) (with_task js t) a b k l n n c u v)
+      pairs (job.Message a) (job.Task b) i j k l c n u v = absurd (kinds_apart g g (with_task js t) (with_task js t) b a l k n n c v u)
+      pairs (job.Message a) (job.Message b) i j k l c n u v =
+          clean.safe.apart (job.Message a) (job.Message b) i j k l c n (packet_back a i k n c u) (packet_back b j l n c v)
+
+  -- and clean
   keeps : first_met (task_takes t) (map held_task js.tasks) ≡ None → Clean g (with_task js t)
   keeps none =
       record {
-        tasks = λ u i. ⊎_elim (λ e. subst (TaskMade g) (sym e) own_made) (λ k. clean.tasks u k) (in_add task_name t u js.tasks i);
-        messages = λ m i. message_keeps m (clean.messages m i);
-        task_names = distinct_add_apart task_name t js.tasks clean.task_names p.fresh;
-        message_names = clean.message_names;
-        cores = λ a b i j k l c n x y. cores a b (in_add task_name t a js.tasks i) (in_add task_name t b js.tasks j) k l c n x y;
-        links = λ m o i j k l c n x y.
-            clean.links m o i j k l c n (packet_back m (clean.messages m i) k c n x) (packet_back o (clean.messages o j) l c n y);
+        made = record {
+          tasks = λ u i. ⊎_elim (λ e. subst (TaskMade g) (sym e) own_made) (λ k. clean.made.tasks u k) (in_add task_name t u js.tasks i);
+          messages = message_keeps;
+          task_names = distinct_add_apart task_name t js.tasks clean.made.task_names p.fresh;
+          message_names = clean.made.message_names;
+        };
+        safe = safe none;
       }
-    where
-      swapped : (u : Task) (n c k l : ℕ) → RunTakes u k c n → RunTakes t l c n → TasksMeet t u n c
-      swapped u n c k l x y = (l, k, y, x)
 
-      cores : (a b : Task) → (a ≡ t) ⊎ In a js.tasks → (b ≡ t) ⊎ In b js.tasks → (k l c n : ℕ) → RunTakes a k c n → RunTakes b l c n → (a ≡ b) × (k ≡ l)
-      cores a b (inl e) (inl f) k l c n x y =
-          (e ∙ sym f, run_only (task_span t) n l k (span_made g t own_made) (subst (λ u. RunTakes u l c n) f y).1 (subst (λ u. RunTakes u k c n) e x).1)
-      cores a b (inl e) (inr j) k l c n x y = absurd (apart none b j n c (k, l, subst (λ u. RunTakes u k c n) e x, y))
-      cores a b (inr i) (inl f) k l c n x y = absurd (apart none a i n c (swapped a n c k l x (subst (λ u. RunTakes u l c n) f y)))
-      cores a b (inr i) (inr j) k l c n x y = clean.cores a b i j k l c n x y
-
-  -- a meeting would break it
-  breaks : (m : Meeting) → FirstMeeting (λ u. u.name) js.tasks (TasksMeet t) m → Clean g (with_task js t) → ⊥
+  -- a meeting would make it unsafe
+  breaks : (m : Meeting) → FirstMeeting task_name js.tasks (λ u. Meets g js (job.Task t) (job.Task u)) m → Safe g (with_task js t) → ⊥
   breaks m f broken =
       let x = f.meets in
-      let same = broken.cores t f.job (add_new task_name t js.tasks) (add_old task_name t f.job js.tasks f.is_held) x.0 x.1 m.place m.instant x.2 x.3 in
-      p.fresh f.job f.is_held (ap (λ u. u.name) (sym same.0))
+      let there = λ (u : Task) (k : ℕ) (h : Uses g js (job.Task u) k m.place m.instant). uses_as g js (with_task js t) (job.Task u) refl k m.instant m.place h in
+      let same = broken.apart (job.Task t) (job.Task f.job) (add_new task_name t js.tasks) (add_old task_name t f.job js.tasks f.is_held) x.0 x.1 m.place m.instant
+      (there t x.0 x.2) (there f.job x.1 x.3) in
+      p.fresh f.job f.is_held (one_name f.job same.0)
+    where
+      one_name : (u : Task) → job.Task t ≡ job.Task u → u.name ≡ t.name
+      one_name u e = let same : t ≡ u = cc in ap task_name (sym same)
 
-  -- past the checks, a task is refused exactly where taking it would break the plan
+  pub refusal_is : task_refusal g.network.nodes js t ≡ run_refusal js t
+  refusal_is = ap (λ r. refusal_past r (λ _. run_refusal js t)) (task_admitted g js t p)
+
+  -- past the checks, a task is refused exactly where the plan with it would not be safe
   pub task_offer : TaskOffer g js t (offer_task g js t).0
   task_offer = subst (λ o. TaskOffer g js t (offered o js (with_task js t)).0) (sym refusal_is) (go (first_met (task_takes t) (map held_task js.tasks)) refl)
     where
       go : (o : Option Meeting) → first_met (task_takes t) (map held_task js.tasks) ≡ o → TaskOffer g js t (offered (option_map task_fault.Meets o) js (with_task js t)).0
       go None is =
           record {
-            exact = (λ x. absurd (no_err x.0 x.1), λ broken. absurd (broken (keeps is)));
+            exact = (λ x. absurd (no_err x.0 x.1), λ broken. absurd (broken (safe is)));
             taken = λ _. keeps is;
             why = λ e x. absurd (no_err e x);
           }
@@ -194,7 +144,7 @@ module _ (g : Setting) (js : Jobs) (t : Task) (clean : Clean g js) (p : TaskPass
       go (Some m) is =
           let f = first_is m is in
           record {
-            exact = (λ x. breaks m f, λ _. (task_fault.Meets m, refl));
+            exact = (λ _. breaks m f, λ _. (task_fault.Meets m, refl));
             taken = λ x. cc;
-            why = λ e x. let same : task_fault.Meets m ≡ e = cc in subst (TaskWhy js t) same f;
+            why = λ e x. let same : task_fault.Meets m ≡ e = cc in subst (TaskWhy g js t) same f;
           }

@@ -1,17 +1,14 @@
--- What is held in the order of its names, and the bytes that say it. Assumes nothing.
+-- Meaning. What is held in the order of its names.
 --   Canonical     names ascend, and no more jobs are held than a plan has room for
 --   ShortNames    every name fits in two bytes
---   ReadsBack     the job part reads as the held jobs, each section in the order in which they are held
---   RoundTrip     the job part of a clean plan reads so, and loaded into a new plan gives the same plan
 --   SameMembers   two plans hold the same jobs
---   SameBytes     plans that hold the same jobs write the same bytes
 use Rattle.std.specs.Prelude.{◌≡◌, ℕ, ◌≤◌, true, ◌↔◌, length, Ok}
 use Rattle.fabric.specs.Network.{Lawful}
 use Rattle.records.specs.Named.{ascends}
 use Rattle.records.specs.declared.record.Task.{Task}
 use Rattle.records.specs.declared.record.Message.{Message}
 use Rattle.jobs.specs.Jobs.{Jobs, Setting, message_name, nothing, task_name}
-use Rattle.promise.specs.Clean.{Clean, In}
+use Rattle.jobs.specs.Jobs.{In}
 
 -- the names of the tasks ascend from 1 and those of the messages too, and there are at most 64 tasks and at most 128 messages
 pub record Canonical (js : Jobs) : Type 0 where

@@ -1,11 +1,10 @@
--- What a dropping answers, in the subject's own words. Assumes nothing.
+-- Meaning. What a dropping answers.
 use Rattle.std.specs.Prelude.{◌≡◌, ℕ, ◌⊎◌, ◌↔◌, Err, Result}
 use Rattle.records.specs.declared.record.Task.{Task}
 use Rattle.records.specs.declared.record.Message.{Message}
 use Rattle.jobs.specs.declared.fault.DropFault.{DropFault}
 use Rattle.jobs.specs.declared.fault.DropFault.TheVariants.{InUse, Unknown}
-use Rattle.jobs.specs.Jobs.{Jobs}
-use Rattle.promise.specs.Clean.{In}
+use Rattle.jobs.specs.Jobs.{In, Jobs}
 
 -- a held task has the name n
 abbrev pub HeldTask : Jobs → ℕ → Type 0

@@ -1,28 +1,33 @@
--- What an offer, a placing and a question say of a clean plan. Assumes nothing.
+-- Meaning. What an offer and a placing say of a clean plan.
 --   TaskPassed, MessagePassed    none of the conditions of the checks before lateness and meetings holds
---   TasksMeet, PacketsMeet       an offered and a held job have one place at one instant
+--   Meets                        an offered and a held job have one place at one instant
 --   FirstMeeting                 the first meeting of all time, then the smallest held name, then the smallest place
---   TaskOffer, MessageOffer      an offer past the checks is refused exactly where taking it would break the plan
+--   TaskOffer, MessageOffer      an offer past the checks is refused exactly where taking it would make the plan unsafe
+--   TaskAnswer, MessageAnswer    what an offer answers, past the checks or not
 --   Smallest                     a placing answers the smallest value that an offer would be taken with
-use Rattle.std.specs.Prelude.{◌≡◌, ℕ, ◌+◌, ◌<◌, ◌≤◌, true, ◌↔◌, List, length, pos, Ok, Err, Result, ◌≢◌, int_lt}
+use Rattle.std.specs.Prelude.{◌≡◌, ℕ, ◌+◌, ◌<◌, ◌≤◌, true, false, ◌↔◌, List, length, pos, Ok, Err, Result, Some, ◌≢◌, int_lt}
 use Rattle.holds.specs.Slack.{LeastSlack}
 use Rattle.records.specs.declared.record.Task.{Task}
 use Rattle.records.specs.declared.record.Message.{Message}
-use Rattle.refusals.specs.declared.refusal.Meeting.{Meeting}
 use Rattle.jobs.specs.declared.fault.TaskFault.{TaskFault}
 use Rattle.jobs.specs.declared.fault.TaskFault.TheVariants as task_fault
 use Rattle.jobs.specs.declared.fault.MessageFault.{MessageFault}
 use Rattle.jobs.specs.declared.fault.MessageFault.TheVariants as message_fault
 use Rattle.jobs.specs.declared.fault.PlacingFault.{PlacingFault}
 use Rattle.jobs.specs.declared.fault.PlacingFault.TheVariants as placing
+use Rattle.jobs.specs.declared.job.Job.{Job}
+use Rattle.jobs.specs.declared.job.Job.TheVariants as job
+use Rattle.jobs.specs.declared.meeting.Meeting.{Meeting}
 use Rattle.jobs.specs.declared.open.OpenTask.{OpenTask}
 use Rattle.jobs.specs.declared.open.OpenMessage.{OpenMessage}
-use Rattle.jobs.specs.Jobs.{Jobs, Setting, with_message, with_task}
+use Rattle.jobs.specs.declared.place.Place.{Place}
+use Rattle.jobs.specs.Jobs.{In, Jobs, Setting, message_name, task_name, with_message, with_task}
 use Rattle.jobs.specs.Open.{message_at, task_at}
+use Rattle.jobs.specs.Places.{place_before}
 use Rattle.jobs.specs.Rules.{offer_message, offer_task}
-use Rattle.jobs.specs.Slacks.{message_flow}
-use Rattle.jobs.specs.Takes.{task_span}
-use Rattle.promise.specs.Clean.{Clean, In, OnTime, PacketTakes, RunTakes, Ways}
+use Rattle.jobs.specs.Timing.{task_span}
+use Rattle.jobs.specs.Trips.{Trip, message_flow, trip_of}
+use Rattle.promise.specs.Clean.{Clean, InTime, Safe, Uses}
 
 -- ---- the checks that come first
 
@@ -38,38 +43,34 @@ pub record TaskPassed (g : Setting) (js : Jobs) (t : Task) : Type 0 where
   pub fits : t.phase + t.width ≤ t.period
   pub room : length js.tasks < 64
 
--- a message's name is not 0 and not held, its two tasks are held, its times are within the limits, the fabric has a route between
--- its tasks, and there is room
-pub record MessagePassed (g : Setting) (js : Jobs) (m : Message) (s d : Task) (r : List ℕ) : Type 0 where
+-- a message's name is not 0 and not held, its two tasks are held with a route between them, its times are within the limits, and there
+-- is room
+pub record MessagePassed (g : Setting) (js : Jobs) (m : Message) (t : Trip) : Type 0 where
   pub named : 0 < m.name
   pub fresh : (o : Message) → In o js.messages → o.name ≢ m.name
-  pub ways : Ways g js.tasks m s d r
+  pub going : trip_of g js.tasks m ≡ Some t
   pub kind : m.kind < 2
-  pub delay : m.delay < s.period
+  pub delay : m.delay < t.source.period
   pub some : 1 ≤ m.width
-  pub fits : m.width ≤ s.period
+  pub fits : m.width ≤ t.source.period
   pub room : length js.messages < 128
 
 -- ---- meetings
 
--- an offered task and the task u have the core c at the instant n
-abbrev pub TasksMeet : Task → Task → ℕ → ℕ → Type 0
-TasksMeet t u n c = (k j : ℕ) × RunTakes t k c n × RunTakes u j c n
-
--- packets of an offered message and of the message o have the link l at the instant n
-abbrev pub PacketsMeet : Setting → List Task → Message → Message → ℕ → ℕ → Type 0
-PacketsMeet g ts m o n l = (k j : ℕ) × PacketTakes g ts m k l n × PacketTakes g ts o j l n
+-- runs of an offered job and of the job y have the place at the instant n
+abbrev pub Meets : Setting → Jobs → Job → Job → ℕ → Place → Type 0
+Meets g js x y n place = (k j : ℕ) × Uses g js x k place n × Uses g js y j place n
 
 -- the meeting happens with a held job of the name that it tells; no earlier instant of all time has a meeting with any held job, at
 -- that instant none has a smaller name, and with that name there is none on a smaller place
-pub record FirstMeeting {X : Type 0} (name : X → ℕ) (held : List X) (Meets : X → ℕ → ℕ → Type 0) (m : Meeting) : Type 0 where
+pub record FirstMeeting {X : Type 0} (name : X → ℕ) (held : List X) (At : X → ℕ → Place → Type 0) (m : Meeting) : Type 0 where
   pub job : X
   pub is_held : In job held
   pub is_named : name job ≡ m.held
-  pub meets : Meets job m.instant m.place
-  pub earliest : (x : X) → In x held → (n p : ℕ) → Meets x n p → m.instant ≤ n
-  pub smallest : (x : X) → In x held → (p : ℕ) → Meets x m.instant p → m.held ≤ name x
-  pub lowest : (x : X) → In x held → name x ≡ m.held → (p : ℕ) → Meets x m.instant p → m.place ≤ p
+  pub meets : At job m.instant m.place
+  pub earliest : (x : X) → In x held → (n : ℕ) (p : Place) → At x n p → m.instant ≤ n
+  pub smallest : (x : X) → In x held → (p : Place) → At x m.instant p → m.held ≤ name x
+  pub lowest : (x : X) → In x held → name x ≡ m.held → (p : Place) → At x m.instant p → place_before p m.place ≡ false
 
 -- ---- offers
 
@@ -78,34 +79,35 @@ abbrev pub Refused : {T E : Type 0} → Result T E → Type 0
 Refused {E = E} r = (e : E) × (r ≡ Err e)
 
 -- why a task past the checks is refused: the first meeting with a held task
-abbrev pub TaskWhy : Jobs → Task → TaskFault → Type 0
-TaskWhy js t task_fault.Name = ⊥
-TaskWhy js t task_fault.Core = ⊥
-TaskWhy js t task_fault.Times = ⊥
-TaskWhy js t task_fault.Full = ⊥
-TaskWhy js t (task_fault.Meets x) = FirstMeeting (λ u. u.name) js.tasks (TasksMeet t) x
+abbrev pub TaskWhy : Setting → Jobs → Task → TaskFault → Type 0
+TaskWhy g js t task_fault.Name = ⊥
+TaskWhy g js t task_fault.Core = ⊥
+TaskWhy g js t task_fault.Times = ⊥
+TaskWhy g js t task_fault.Full = ⊥
+TaskWhy g js t (task_fault.Meets x) = FirstMeeting task_name js.tasks (λ u. Meets g js (job.Task t) (job.Task u)) x
 
--- an answer r to a task past the checks is a refusal exactly where taking the task would break the plan
+-- an answer r to a task past the checks is a refusal exactly where the plan with the task would not be safe
 pub record TaskOffer (g : Setting) (js : Jobs) (t : Task) (r : Result (Unit {0}) TaskFault) : Type 0 where
-  pub exact : Refused r ↔ (Clean g (with_task js t) → ⊥)
+  pub exact : Refused r ↔ (Safe g (with_task js t) → ⊥)
   pub taken : r ≡ Ok tt → Clean g (with_task js t)
-  pub why : (e : TaskFault) → r ≡ Err e → TaskWhy js t e
+  pub why : (e : TaskFault) → r ≡ Err e → TaskWhy g js t e
 
 -- why a message past the checks is refused: late by the least slack over all packets, which is below 0, or else the first meeting
-abbrev pub MessageWhy : Setting → Jobs → Message → Task → Task → List ℕ → MessageFault → Type 0
-MessageWhy g js m s d r message_fault.Name = ⊥
-MessageWhy g js m s d r message_fault.Ends = ⊥
-MessageWhy g js m s d r message_fault.Times = ⊥
-MessageWhy g js m s d r message_fault.NoRoute = ⊥
-MessageWhy g js m s d r message_fault.Full = ⊥
-MessageWhy g js m s d r (message_fault.Late v) = LeastSlack (message_flow g s m (length r)) (task_span d) v × (int_lt v (pos 0) ≡ true)
-MessageWhy g js m s d r (message_fault.Meets x) = OnTime g s d m r × FirstMeeting (λ o. o.name) js.messages (PacketsMeet g js.tasks m) x
+abbrev pub MessageWhy : Setting → Jobs → Message → Trip → MessageFault → Type 0
+MessageWhy g js m t message_fault.Name = ⊥
+MessageWhy g js m t message_fault.Ends = ⊥
+MessageWhy g js m t message_fault.Times = ⊥
+MessageWhy g js m t message_fault.NoRoute = ⊥
+MessageWhy g js m t message_fault.Full = ⊥
+MessageWhy g js m t (message_fault.Late v) = LeastSlack (message_flow g.network t m) (task_span t.destination) v × (int_lt v (pos 0) ≡ true)
+MessageWhy g js m t (message_fault.Meets x) =
+    InTime g.network t m × FirstMeeting message_name js.messages (λ o. Meets g js (job.Message m) (job.Message o)) x
 
--- an answer r to a message past the checks is a refusal exactly where taking the message would break the plan
-pub record MessageOffer (g : Setting) (js : Jobs) (m : Message) (s d : Task) (route : List ℕ) (r : Result (Unit {0}) MessageFault) : Type 0 where
-  pub exact : Refused r ↔ (Clean g (with_message js m) → ⊥)
+-- an answer r to a message past the checks is a refusal exactly where the plan with the message would not be safe
+pub record MessageOffer (g : Setting) (js : Jobs) (m : Message) (t : Trip) (r : Result (Unit {0}) MessageFault) : Type 0 where
+  pub exact : Refused r ↔ (Safe g (with_message js m) → ⊥)
   pub taken : r ≡ Ok tt → Clean g (with_message js m)
-  pub why : (e : MessageFault) → r ≡ Err e → MessageWhy g js m s d route e
+  pub why : (e : MessageFault) → r ≡ Err e → MessageWhy g js m t e
 
 -- ---- answers to offers
 
@@ -127,15 +129,15 @@ EarlyMessage message_fault.Full = Unit {0}
 EarlyMessage (message_fault.Late v) = ⊥
 EarlyMessage (message_fault.Meets x) = ⊥
 
--- an answer is an early fault exactly where one of the earlier conditions holds; past them it is a refusal exactly where taking the
--- job would break the plan
+-- an answer is an early fault exactly where one of the earlier conditions holds; past them it is a refusal exactly where the plan with
+-- the job would not be safe
 pub record TaskAnswer (g : Setting) (js : Jobs) (t : Task) (r : Result (Unit {0}) TaskFault) : Type 0 where
   pub early : ((e : TaskFault) × (r ≡ Err e) × EarlyTask e) ↔ (TaskPassed g js t → ⊥)
   pub past : TaskPassed g js t → TaskOffer g js t r
 
 pub record MessageAnswer (g : Setting) (js : Jobs) (m : Message) (r : Result (Unit {0}) MessageFault) : Type 0 where
-  pub early : ((e : MessageFault) × (r ≡ Err e) × EarlyMessage e) ↔ ((s d : Task) (route : List ℕ) → MessagePassed g js m s d route → ⊥)
-  pub past : (s d : Task) (route : List ℕ) → MessagePassed g js m s d route → MessageOffer g js m s d route r
+  pub early : ((e : MessageFault) × (r ≡ Err e) × EarlyMessage e) ↔ ((t : Trip) → MessagePassed g js m t → ⊥)
+  pub past : (t : Trip) → MessagePassed g js m t → MessageOffer g js m t r
 
 -- ---- placings
 
@@ -159,5 +161,5 @@ pub record TaskPlacing (g : Setting) (js : Jobs) (t : OpenTask) (r : Result ℕ 
   pub past : TaskPassed g js (task_at t 0) → Smallest (TaskFits g js t) placing.NoFit r
 
 pub record MessagePlacing (g : Setting) (js : Jobs) (m : OpenMessage) (r : Result ℕ (PlacingFault MessageFault)) : Type 0 where
-  pub early : ((e : MessageFault) × (r ≡ Err (placing.Offer e)) × EarlyMessage e) ↔ ((s d : Task) (route : List ℕ) → MessagePassed g js (message_at m 0) s d route → ⊥)
-  pub past : (s d : Task) (route : List ℕ) → MessagePassed g js (message_at m 0) s d route → Smallest (MessageFits g js m s) placing.NoFit r
+  pub early : ((e : MessageFault) × (r ≡ Err (placing.Offer e)) × EarlyMessage e) ↔ ((t : Trip) → MessagePassed g js (message_at m 0) t → ⊥)
+  pub past : (t : Trip) → MessagePassed g js (message_at m 0) t → Smallest (MessageFits g js m t.source) placing.NoFit r

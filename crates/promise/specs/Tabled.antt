@@ -1,4 +1,4 @@
--- The jobs that two tables hold. Assumes nothing.
+-- Meaning. The jobs that two tables hold.
 use Rattle.records.specs.Tables.{held}
 use Rattle.records.specs.declared.record.Task.{Task}
 use Rattle.records.specs.declared.record.Message.{Message}
