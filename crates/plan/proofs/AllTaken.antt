@@ -1,16 +1,23 @@
--- The jobs of a clean plan, offered in the order of their names, are all taken. Assumes nothing.
-use Rattle.std.proofs.Common.{◌≡◌, ℕ, ◌+◌, ◌<◌, ◌≤◌, true, List, [], ◌∷◌, ◌++◌, length, Some, None, Ok, Option, sym, refl, ap, ◌∙◌, subst, append_assoc, arith, length-append}
+-- The jobs of a clean plan, offered in the order of their names, are all taken.
+use Rattle.std.proofs.Common.{◌≡◌, ℕ, ◌+◌, ◌<◌, ◌≤◌, true, List, [], ◌∷◌, ◌++◌, length, map, Some, None, Ok, Err, Option, Result, sym, refl, ap, ◌∙◌, subst, append_assoc, arith, length-append}
 use Rattle.std.proofs.lemmas.List.{append-nil}
-use Rattle.fabric.specs.Network.{Lawful}
+use Rattle.std.specs.Option.{option_map}
+use Rattle.fabric.specs.Network.{IsFabric}
 use Rattle.records.specs.Named.{add, ascends}
 use Rattle.records.specs.declared.record.Task.{Task}
 use Rattle.records.specs.declared.record.Message.{Message}
 use Rattle.jobs.specs.Jobs.{Jobs, Setting, message_name, nothing, task_name, with_message, with_task}
+use Rattle.jobs.specs.Offered.{joined, refused}
+use Rattle.jobs.specs.declared.job.Job.{Job}
+use Rattle.jobs.specs.declared.job.Job.TheVariants as job
+use Rattle.jobs.specs.declared.job.JobFault.{JobFault}
+use Rattle.jobs.specs.declared.job.JobFault.TheVariants as job_fault
 use Rattle.jobs.specs.Rules.{message_refusal, offered, task_refusal}
 use Rattle.plan.specs.Held.{counts_of}
-use Rattle.plan.specs.Loading.{in_turn, load_messages, load_tasks, loaded, on_taken, past_messages, past_tasks}
+use Rattle.plan.specs.Loading.{counted, in_turn, loaded, on_taken}
 use Rattle.promise.specs.Canonical.{Canonical}
-use Rattle.promise.specs.Clean.{Clean, Distinct, In, MessageMade}
+use Rattle.promise.specs.Clean.{Clean, Distinct, MessageMade, Safe}
+use Rattle.jobs.specs.Jobs.{In}
 use Rattle.promise.specs.Offers.{MessagePassed, Refused, TaskPassed}
 use Rattle.promise.proofs.Ascending.{add_last, ascends_below, distinct_left}
 use Rattle.promise.proofs.Lists.{in_left, in_nil, in_right}
@@ -25,16 +32,28 @@ not_refused : {E : Type 0} (o : Option E) (js after : Jobs) → (Refused (offere
 not_refused None js after wrong = refl
 not_refused (Some e) js after wrong = absurd (wrong (e, refl))
 
-module _ {X E : Type 0} (refusal : Jobs → X → Option E) (held : Jobs → X → Jobs) (state : List X → Jobs) (all : List X)
-    (free : (front : List X) (x : X) (rest : List X) → front ++ x ∷ rest ≡ all → refusal (state front) x ≡ None)
-    (last : (front : List X) (x : X) (rest : List X) → front ++ x ∷ rest ≡ all → held (state front) x ≡ state (front ++ x ∷ [])) where
-  -- where after each front the next job is taken and goes to the end, all are taken in their order
-  pub turn_all : (front rest : List X) (k : ℕ) → front ++ rest ≡ all → in_turn refusal held (state front) k rest ≡ (Ok tt, state all)
-  turn_all front [] k is = ap (λ l. (Ok tt, state l)) (sym (append-nil front) ∙ is)
-  turn_all front (x ∷ rest) k is =
-      ap (λ o. on_taken k o (state front) (in_turn refusal held (held (state front) x) (k + 1) rest)) (free front x rest is)
-      ∙ ap (λ js. in_turn refusal held js (k + 1) rest) (last front x rest is)
-      ∙ turn_all (front ++ x ∷ []) rest (k + 1) (append_assoc front (x ∷ []) rest ∙ is)
+module _ (g : Setting) where
+  -- where all of a front are taken, the others go on from what is held then
+  turn_append : (js mid : Jobs) (k : ℕ) (xs ys : List Job) → in_turn g js k xs ≡ (Ok tt, mid) → in_turn g js k (xs ++ ys) ≡ in_turn g mid (k + length xs) ys
+  turn_append js mid k [] ys e = let same : js ≡ mid = ap (λ r. r.1) e in let here : k ≡ k + 0 = omega arith in ap (λ j. in_turn g j k ys) same ∙ ap (λ n. in_turn g mid n ys) here
+  turn_append js mid k (x ∷ xs) ys e = go (refused g js x) e (turn_append (joined js x) mid (k + 1) xs ys)
+    where
+      go : (o : Option JobFault) → on_taken k o js (in_turn g (joined js x) (k + 1) xs) ≡ (Ok tt, mid)
+          → (in_turn g (joined js x) (k + 1) xs ≡ (Ok tt, mid) → in_turn g (joined js x) (k + 1) (xs ++ ys) ≡ in_turn g mid (k + 1 + length xs) ys)
+          → on_taken k o js (in_turn g (joined js x) (k + 1) (xs ++ ys)) ≡ in_turn g mid (k + length (x ∷ xs)) ys
+      go None is next = let here : k + 1 + length xs ≡ k + length (x ∷ xs) = omega arith in next is ∙ ap (λ n. in_turn g mid n ys) here
+      go (Some f) is next = let no : ◌≡◌ {A = Result (Unit {0}) (ℕ × JobFault)} (Err (k, f)) (Ok tt) = ap (λ r. r.0) is in absurd cc
+
+  module _ {X : Type 0} (make : X → Job) (state : List X → Jobs) (all : List X)
+      (free : (front : List X) (x : X) (rest : List X) → front ++ x ∷ rest ≡ all → refused g (state front) (make x) ≡ None)
+      (last : (front : List X) (x : X) (rest : List X) → front ++ x ∷ rest ≡ all → joined (state front) (make x) ≡ state (front ++ x ∷ [])) where
+    -- where after each front the next job is taken and goes to the end, all are taken in their order
+    turn_all : (front rest : List X) (k : ℕ) → front ++ rest ≡ all → in_turn g (state front) k (map make rest) ≡ (Ok tt, state all)
+    turn_all front [] k is = ap (λ l. (Ok tt, state l)) (sym (append-nil front) ∙ is)
+    turn_all front (x ∷ rest) k is =
+        ap (λ o. on_taken k o (state front) (in_turn g (joined (state front) (make x)) (k + 1) (map make rest))) (free front x rest is)
+        ∙ ap (λ js. in_turn g js (k + 1) (map make rest)) (last front x rest is)
+        ∙ turn_all (front ++ x ∷ []) rest (k + 1) (append_assoc front (x ∷ []) rest ∙ is)
 
 -- ---- a list in parts: a front, the next, and the rest
 
@@ -95,21 +114,21 @@ module _ (g : Setting) (js : Jobs) (clean : Clean g js) (here : Canonical js) wh
   task_free front t rest is =
       not_refused (task_refusal g.network.nodes (tasks_only front) t) (tasks_only front) (with_task (tasks_only front) t)
       (λ refused. (task_offer g (tasks_only front) t front_clean passed).exact.0 refused
-      (subst (Clean g) (ap tasks_only (sym (more_last task_name js.tasks front t rest is here.tasks))) more_clean))
+      (subst (Safe g) (ap tasks_only (sym (more_last task_name js.tasks front t rest is here.tasks))) more_clean.safe))
     where
       front_clean : Clean g (tasks_only front)
       front_clean =
           clean_part g (tasks_only front) js
-          (tasks_part js front (front_in task_name js.tasks front t rest is) (front_distinct task_name js.tasks front t rest is clean.task_names)) clean
+          (tasks_part js front (front_in task_name js.tasks front t rest is) (front_distinct task_name js.tasks front t rest is clean.made.task_names)) clean
 
       more_clean : Clean g (tasks_only (front ++ t ∷ []))
       more_clean =
           clean_part g (tasks_only (front ++ t ∷ [])) js
-          (tasks_part js (front ++ t ∷ []) (more_in task_name js.tasks front t rest is) (more_distinct task_name js.tasks front t rest is clean.task_names)) clean
+          (tasks_part js (front ++ t ∷ []) (more_in task_name js.tasks front t rest is) (more_distinct task_name js.tasks front t rest is clean.made.task_names)) clean
 
       passed : TaskPassed g (tasks_only front) t
       passed =
-          let made = clean.tasks t (next_in task_name js.tasks front t rest is) in
+          let made = clean.made.tasks t (next_in task_name js.tasks front t rest is) in
           record {
             named = made.named;
             fresh = front_apart task_name js.tasks front t rest is here.tasks;
@@ -123,9 +142,9 @@ module _ (g : Setting) (js : Jobs) (clean : Clean g js) (here : Canonical js) wh
           }
 
   -- all tasks are taken in their order
-  pub tasks_taken : load_tasks g nothing 0 js.tasks ≡ (Ok tt, tasks_only js.tasks)
+  tasks_taken : in_turn g nothing 0 (map job.Task js.tasks) ≡ (Ok tt, tasks_only js.tasks)
   tasks_taken =
-      turn_all (task_refusal g.network.nodes) with_task tasks_only js.tasks task_free
+      turn_all g job.Task tasks_only js.tasks (λ front t rest is. ap (option_map job_fault.Task) (task_free front t rest is))
       (λ front t rest is. ap tasks_only (more_last task_name js.tasks front t rest is here.tasks))
       [] js.tasks 0 refl
 
@@ -140,40 +159,40 @@ module _ (g : Setting) (js : Jobs) (clean : Clean g js) (here : Canonical js) wh
       record {
         tasks = λ t i. i;
         messages = within;
-        task_names = clean.task_names;
+        task_names = clean.made.task_names;
         message_names = distinct;
         sources = λ m i. refl;
         destinations = λ m i. refl;
       }
 
-  module _ (most : ℕ) (few : most ≤ 64) (laws : Lawful most g.network) where
+  module _ (fab : IsFabric g.network) where
     -- the next message is past the checks, and the front with it is a part of the clean plan, so it is not refused
     message_free : (front : List Message) (m : Message) (rest : List Message) → front ++ m ∷ rest ≡ js.messages → message_refusal g (after_tasks front) m ≡ None
     message_free front m rest is =
         not_refused (message_refusal g (after_tasks front) m) (after_tasks front) (with_message (after_tasks front) m)
-        (λ refused. (message_offer g most few laws (after_tasks front) m made.source made.destination made.route front_clean passed).exact.0 refused
-        (subst (Clean g) (ap after_tasks (sym (more_last message_name js.messages front m rest is here.messages))) more_clean))
+        (λ refused. (message_offer g fab (after_tasks front) m made.trip front_clean passed).exact.0 refused
+        (subst (Safe g) (ap after_tasks (sym (more_last message_name js.messages front m rest is here.messages))) more_clean.safe))
       where
         made : MessageMade g js.tasks m
-        made = clean.messages m (next_in message_name js.messages front m rest is)
+        made = clean.made.messages m (next_in message_name js.messages front m rest is)
 
         front_clean : Clean g (after_tasks front)
         front_clean =
             clean_part g (after_tasks front) js
-            (messages_part front (front_in message_name js.messages front m rest is) (front_distinct message_name js.messages front m rest is clean.message_names)) clean
+            (messages_part front (front_in message_name js.messages front m rest is) (front_distinct message_name js.messages front m rest is clean.made.message_names)) clean
 
         more_clean : Clean g (after_tasks (front ++ m ∷ []))
         more_clean =
             clean_part g (after_tasks (front ++ m ∷ [])) js
-            (messages_part (front ++ m ∷ []) (more_in message_name js.messages front m rest is) (more_distinct message_name js.messages front m rest is clean.message_names))
+            (messages_part (front ++ m ∷ []) (more_in message_name js.messages front m rest is) (more_distinct message_name js.messages front m rest is clean.made.message_names))
             clean
 
-        passed : MessagePassed g (after_tasks front) m made.source made.destination made.route
+        passed : MessagePassed g (after_tasks front) m made.trip
         passed =
             record {
               named = made.named;
               fresh = front_apart message_name js.messages front m rest is here.messages;
-              ways = made.ways;
+              going = made.going;
               kind = made.kind;
               delay = made.delay;
               some = made.some;
@@ -182,14 +201,14 @@ module _ (g : Setting) (js : Jobs) (clean : Clean g js) (here : Canonical js) wh
             }
 
     -- after them all messages are taken in their order
-    pub messages_taken : load_messages g (tasks_only js.tasks) 0 js.messages ≡ (Ok tt, js)
-    messages_taken =
-        turn_all (message_refusal g) with_message after_tasks js.messages message_free
+    messages_taken : (k : ℕ) → in_turn g (tasks_only js.tasks) k (map job.Message js.messages) ≡ (Ok tt, js)
+    messages_taken k =
+        turn_all g job.Message after_tasks js.messages (λ front m rest is. ap (option_map job_fault.Message) (message_free front m rest is))
         (λ front m rest is. ap after_tasks (more_last message_name js.messages front m rest is here.messages))
-        [] js.messages 0 refl
+        [] js.messages k refl
 
     -- a load of them takes them all
     pub all_taken : loaded g nothing (Ok (js.tasks, js.messages)) ≡ (Ok (counts_of js), js)
     all_taken =
-        ap (λ r. past_tasks g js.tasks js.messages r.0 r.1) tasks_taken
-        ∙ ap (λ r. (past_messages (length js.tasks) (length js.messages) r.0, r.1)) messages_taken
+        ap (λ r. (counted (js.tasks, js.messages) r.0, r.1))
+        (turn_append g nothing (tasks_only js.tasks) 0 (map job.Task js.tasks) (map job.Message js.messages) tasks_taken ∙ messages_taken _)

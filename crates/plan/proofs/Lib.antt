@@ -1,6 +1,8 @@
 pub mod Turns
 pub mod Writing
 pub mod Loads
+pub mod Tries
+pub mod Afters
 pub mod Short
 pub mod Reading
 pub mod AllTaken

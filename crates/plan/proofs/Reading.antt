@@ -1,4 +1,4 @@
--- The job part that a plan writes reads back as its jobs. Assumes nothing.
+-- The job part that a plan writes reads back as its jobs.
 --   TaskSized, MessageSized    each field fits its bytes
 --   part_back                  the job part reads as the tasks and the messages that it was written from
 use Rattle.std.proofs.Common.{◌≡◌, ℕ, zero, suc, ◌+◌, ◌*◌, ◌/◌, ◌%◌, ◌<◌, ◌≤◌, true, ◌&&◌, ltb, List, [], ◌∷◌, ◌++◌, length, get_or, Some, None, Ok, Option, sym, refl, ap, ◌∙◌, arith}
@@ -13,7 +13,7 @@ use Rattle.records.proofs.Back.{cut_back, records_back}
 use Rattle.jobs.specs.Jobs.{Jobs}
 use Rattle.plan.specs.Loading.{both_read, job_part, messages_cut, tasks_cut}
 use Rattle.plan.specs.Writing.{part_bytes}
-use Rattle.promise.specs.Clean.{In}
+use Rattle.jobs.specs.Jobs.{In}
 
 -- each field of a task is below what its bytes can say
 pub record TaskSized (t : Task) : Type 0 where

@@ -1,4 +1,4 @@
--- A clean plan's job part, loaded into a new plan over the same fabric, gives the same plan. Assumes nothing.
+-- A clean plan's job part, loaded into a new plan over the same fabric, gives the same plan.
 use Rattle.std.proofs.Common.{◌≡◌, ℕ, ◌≤◌, Some, ap, ◌∙◌, arith}
 use Rattle.records.specs.declared.record.Task.{Task}
 use Rattle.records.specs.declared.record.Message.{Message}
@@ -6,8 +6,10 @@ use Rattle.jobs.specs.Jobs.{Jobs, Setting, nothing, task_name, task_named}
 use Rattle.plan.specs.Loading.{loaded}
 use Rattle.plan.specs.Round.{RoundTrip}
 use Rattle.promise.specs.Canonical.{ShortNames}
-use Rattle.promise.specs.Clean.{Clean, In, TaskMade}
+use Rattle.promise.specs.Clean.{Clean, TaskMade}
+use Rattle.jobs.specs.Jobs.{In}
 use Rattle.promise.proofs.Lists.{named_in}
+use Rattle.promise.proofs.Takes.{trip_parts}
 use Rattle.plan.proofs.Reading.{MessageSized, TaskSized, part_back}
 use Rattle.plan.proofs.AllTaken.{all_taken}
 
@@ -15,7 +17,7 @@ module _ (g : Setting) (js : Jobs) (clean : Clean g js) (short : ShortNames js) 
   -- the limits of a held task are below what its bytes can say
   pub tasks_fit : g.network.nodes ≤ 64 → (t : Task) → In t js.tasks → TaskSized t
   tasks_fit few t i =
-      let made = clean.tasks t i in
+      let made = clean.made.tasks t i in
       record {
         name = omega (arith, short.tasks t i);
         core = omega (arith, made.on_core, few);
@@ -30,15 +32,16 @@ module _ (g : Setting) (js : Jobs) (clean : Clean g js) (short : ShortNames js) 
 
   -- and it is well made
   held_made : (n : ℕ) (s : Task) → task_named js.tasks n ≡ Some s → TaskMade g s
-  held_made n s e = clean.tasks s (named_in task_name n s js.tasks e).0
+  held_made n s e = clean.made.tasks s (named_in task_name n s js.tasks e).0
 
   -- so are those of a held message: it names held tasks, and its times are below its source's period
   pub messages_fit : (m : Message) → In m js.messages → MessageSized m
   messages_fit m i =
-      let made = clean.messages m i in
-      let s = held_name m.source made.source made.ways.from in
-      let sm = held_made m.source made.source made.ways.from in
-      let d = held_name m.destination made.destination made.ways.to in
+      let made = clean.made.messages m i in
+      let parts = trip_parts g.network (task_named js.tasks m.source) (task_named js.tasks m.destination) made.trip made.going in
+      let s = held_name m.source made.trip.source parts.source in
+      let sm = held_made m.source made.trip.source parts.source in
+      let d = held_name m.destination made.trip.destination parts.destination in
       record {
         name = omega (arith, short.messages m i);
         source = omega (arith, s.0, s.1);
@@ -50,6 +53,6 @@ module _ (g : Setting) (js : Jobs) (clean : Clean g js) (short : ShortNames js) 
 
 -- the bytes read back as the jobs, and their offers in turn are all taken
 pub round_trip : RoundTrip
-round_trip g longest few laws js clean here short =
-    let reads = part_back js (omega (arith, here.few_tasks)) (omega (arith, here.few_messages)) (tasks_fit g js clean short laws.few_nodes) (messages_fit g js clean short) in
-    (reads, ap (loaded g nothing) reads ∙ all_taken g js clean here longest few laws)
+round_trip g fab js clean here short =
+    let reads = part_back js (omega (arith, here.few_tasks)) (omega (arith, here.few_messages)) (tasks_fit g js clean short fab.lawful.few_nodes) (messages_fit g js clean short) in
+    (reads, ap (loaded g nothing) reads ∙ all_taken g js clean here fab)

@@ -1,4 +1,4 @@
--- Plans that hold the same jobs are the same and write the same bytes. Assumes nothing.
+-- Plans that hold the same jobs are the same and write the same bytes.
 use Rattle.std.proofs.Common.{◌≡◌, ap, ◌∙◌}
 use Rattle.jobs.specs.Jobs.{Jobs, message_name, task_name}
 use Rattle.plan.specs.Writing.{part_bytes}

@@ -1,6 +1,6 @@
 -- Held names stay within two bytes: an offer or a placing adds a job with the name of its argument, a dropping adds none, and a load
--- adds jobs whose names were read from two bytes. Assumes nothing.
-use Rattle.std.proofs.Common.{◌≡◌, ℕ, zero, suc, ◌+◌, ◌*◌, ◌/◌, ◌≤◌, eqb, ltb, List, [], ◌∷◌, length, take, drop, is_some, Some, None, Ok, Err, Option, Result, slice_index, sym, refl, subst, ⊎_elim, arith}
+-- adds jobs whose names were read from two bytes.
+use Rattle.std.proofs.Common.{◌≡◌, ℕ, zero, suc, ◌+◌, ◌*◌, ◌/◌, ◌≤◌, eqb, ltb, List, [], ◌∷◌, length, map, take, drop, is_some, Some, None, Ok, Err, Option, Result, slice_index, sym, refl, subst, ⊎_elim, arith}
 use Rattle.std.proofs.lemmas.Bool.{cond_both}
 use Rattle.records.specs.Bytes.{Bytes, be}
 use Rattle.records.specs.Forms.{message_in, message_of, task_in, task_of}
@@ -14,17 +14,22 @@ use Rattle.jobs.specs.declared.fault.TaskFault.{TaskFault}
 use Rattle.jobs.specs.declared.fault.MessageFault.{MessageFault}
 use Rattle.jobs.specs.declared.open.OpenTask.{OpenTask}
 use Rattle.jobs.specs.declared.open.OpenMessage.{OpenMessage}
-use Rattle.jobs.specs.Checks.{message_checks, task_checks}
+use Rattle.jobs.specs.Checks.{admitted_message, admitted_task}
+use Rattle.promise.proofs.Kept.{offered_kept, placed_kept}
 use Rattle.jobs.specs.Drops.{drop_message, drop_task, in_use}
 use Rattle.jobs.specs.Jobs.{Jobs, Setting, message_name, nothing, task_name, with_message, with_task}
+use Rattle.jobs.specs.Offered.{joined, refused}
+use Rattle.jobs.specs.declared.job.Job.{Job}
+use Rattle.jobs.specs.declared.job.Job.TheVariants as job
+use Rattle.jobs.specs.declared.job.JobFault.{JobFault}
 use Rattle.jobs.specs.Open.{message_at, task_at}
-use Rattle.jobs.specs.Placings.{first_delay, first_phase, message_placed, place_message, place_task, task_placed}
+use Rattle.jobs.specs.Placings.{first_delay, first_phase, place_message, place_task}
 use Rattle.jobs.specs.Rules.{message_refusal, offer_message, offer_task, offered, task_refusal}
-use Rattle.plan.specs.Loading.{both_read, in_turn, job_part, load, load_tasks, loaded, messages_cut, on_taken, past_tasks, tasks_cut}
+use Rattle.plan.specs.Loading.{both_read, file_order, in_turn, job_part, load, loaded, messages_cut, on_taken, tasks_cut}
 use Rattle.plan.specs.declared.fault.LayoutFault.{LayoutFault}
 use Rattle.promise.specs.Canonical.{ShortNames}
-use Rattle.promise.specs.Clean.{In}
-use Rattle.promise.proofs.Lists.{in_add, in_cases, in_here, in_nil, in_there, without_in}
+use Rattle.jobs.specs.Jobs.{In}
+use Rattle.promise.proofs.Lists.{append_in, in_add, in_cases, in_here, in_nil, in_there, map_in, without_in}
 
 -- the name of a task fits in two bytes, and that of a message
 abbrev ShortTask : Task → Type 0
@@ -68,33 +73,20 @@ drop_message_short js n here =
 
 -- ---- offers and placings
 
--- what holds before an offer and with its job, holds after it
-after_offer : {E : Type 0} (o : Option E) (js after : Jobs) → ShortNames js → ShortNames after → ShortNames (offered o js after).1
-after_offer None js after here more = more
-after_offer (Some e) js after here more = here
-
 module _ (g : Setting) where
   pub offer_task_short : (js : Jobs) (t : Task) → t.name ≤ 65535 → ShortNames js → ShortNames (offer_task g js t).1
-  offer_task_short js t fits here = after_offer (task_refusal g.network.nodes js t) js (with_task js t) here (task_short js t fits here)
+  offer_task_short js t fits here = offered_kept ShortNames (task_refusal g.network.nodes js t) js (with_task js t) here (λ _. task_short js t fits here)
 
   pub offer_message_short : (js : Jobs) (m : Message) → m.name ≤ 65535 → ShortNames js → ShortNames (offer_message g js m).1
-  offer_message_short js m fits here = after_offer (message_refusal g js m) js (with_message js m) here (message_short js m fits here)
+  offer_message_short js m fits here = offered_kept ShortNames (message_refusal g js m) js (with_message js m) here (λ _. message_short js m fits here)
 
   pub place_task_short : (js : Jobs) (t : OpenTask) → t.name ≤ 65535 → ShortNames js → ShortNames (place_task g js t).1
-  place_task_short js t fits here = go (task_checks g.network.nodes js (task_at t 0) None) (first_phase g js t)
-    where
-      go : (c : Option TaskFault) (o : Option ℕ) → ShortNames (task_placed js t c o).1
-      go (Some e) o = here
-      go None None = here
-      go None (Some v) = task_short js (task_at t v) fits here
+  place_task_short js t fits here =
+      placed_kept ShortNames js (λ v. with_task js (task_at t v)) (admitted_task g.network.nodes js (task_at t 0)) (first_phase g js t) here (λ v _. task_short js (task_at t v) fits here)
 
   pub place_message_short : (js : Jobs) (m : OpenMessage) → m.name ≤ 65535 → ShortNames js → ShortNames (place_message g js m).1
-  place_message_short js m fits here = go (message_checks g js (message_at m 0) (λ s d r. None)) (first_delay g js m)
-    where
-      go : (c : Option MessageFault) (o : Option ℕ) → ShortNames (message_placed js m c o).1
-      go (Some e) o = here
-      go None None = here
-      go None (Some v) = message_short js (message_at m v) fits here
+  place_message_short js m fits here =
+      placed_kept ShortNames js (λ v. with_message js (message_at m v)) (admitted_message g js (message_at m 0)) (first_delay g js m) here (λ v _. message_short js (message_at m v) fits here)
 
 -- ---- names that are read
 
@@ -179,30 +171,36 @@ tasks_short (Ok p) c = messages_short p.0 c.0 (cut_of 16 p.1) (cut_bytes p.1 c.1
 
 -- ---- loads
 
-module _ {X E : Type 0} (refusal : Jobs → X → Option E) (held : Jobs → X → Jobs) (Q : X → Type 0)
-    (keep : (js : Jobs) (x : X) → Q x → ShortNames js → ShortNames (held js x)) where
-  -- what each job with Q keeps, offers of such jobs in turn keep
-  turn_short : (js : Jobs) (k : ℕ) (xs : List X) → ((x : X) → In x xs → Q x) → ShortNames js → ShortNames (in_turn refusal held js k xs).1
-  turn_short js k [] all here = here
-  turn_short js k (x ∷ xs) all here =
-      go (refusal js x) (turn_short (held js x) (k + 1) xs (λ y i. all y (in_there x y xs i)) (keep js x (all x (in_here x x xs refl)) here))
-    where
-      go : (o : Option E) → ShortNames (in_turn refusal held (held js x) (k + 1) xs).1 → ShortNames (on_taken k o js (in_turn refusal held (held js x) (k + 1) xs)).1
-      go None next = next
-      go (Some e) next = here
+-- the name of a job fits in two bytes
+abbrev ShortJob : Job → Type 0
+ShortJob (job.Task t) = ShortTask t
+ShortJob (job.Message m) = ShortMessage m
+
+job_short : (js : Jobs) (x : Job) → ShortJob x → ShortNames js → ShortNames (joined js x)
+job_short js (job.Task t) fits here = task_short js t fits here
+job_short js (job.Message m) fits here = message_short js m fits here
+
+-- offers of jobs with such names in turn keep the names within two bytes
+turn_short : (g : Setting) (js : Jobs) (k : ℕ) (xs : List Job) → ((x : Job) → In x xs → ShortJob x) → ShortNames js → ShortNames (in_turn g js k xs).1
+turn_short g js k [] all here = here
+turn_short g js k (x ∷ xs) all here =
+    go (refused g js x) (turn_short g (joined js x) (k + 1) xs (λ y i. all y (in_there x y xs i)) (job_short js x (all x (in_here x x xs refl)) here))
+  where
+    go : (o : Option JobFault) → ShortNames (in_turn g (joined js x) (k + 1) xs).1 → ShortNames (on_taken k o js (in_turn g (joined js x) (k + 1) xs)).1
+    go None next = next
+    go (Some e) next = here
+
+-- the records of a part whose names are short are jobs whose names are
+all_short : (p : List Task × List Message) → PartShort (Ok p) → (x : Job) → In x (file_order p) → ShortJob x
+all_short p all x i =
+    ⊎_elim (λ a. let k = map_in job.Task x p.0 a in subst ShortJob k.2 (all.0 k.0 k.1))
+    (λ b. let k = map_in job.Message x p.1 b in subst ShortJob k.2 (all.1 k.0 k.1))
+    (append_in x (map job.Task p.0) (map job.Message p.1) i)
 
 -- a load of bytes offers jobs whose names were read from two bytes
 pub load_short : (g : Setting) (js : Jobs) (part : List ℕ) → Bytes part → ShortNames js → ShortNames (load g js part).1
 load_short g js part bytes here = go (job_part part) (tasks_short (cut_of 16 part) (cut_bytes part bytes))
   where
-    tasks : (ts : List Task) → ((t : Task) → In t ts → ShortTask t) → ShortNames (load_tasks g js 0 ts).1
-    tasks ts all = turn_short (task_refusal g.network.nodes) with_task ShortTask task_short js 0 ts all here
-
-    past : (ts : List Task) (ms : List Message) → ((t : Task) → In t ts → ShortTask t) → ((m : Message) → In m ms → ShortMessage m)
-        → (r : Result (Unit {0}) (ℕ × TaskFault)) → ShortNames (past_tasks g ts ms r (load_tasks g js 0 ts).1).1
-    past ts ms a b (Err e) = tasks ts a
-    past ts ms a b (Ok u) = turn_short (message_refusal g) with_message ShortMessage message_short (load_tasks g js 0 ts).1 0 ms b (tasks ts a)
-
     go : (o : Result (List Task × List Message) LayoutFault) → PartShort o → ShortNames (loaded g js o).1
     go (Err e) all = here
-    go (Ok p) all = past p.0 p.1 all.0 all.1 (load_tasks g js 0 p.0).0
+    go (Ok p) all = turn_short g js 0 (file_order p) (all_short p all) here

@@ -1,5 +1,5 @@
 -- The two sections of a job part, written one after the other.
-use Rattle.std.proofs.Common.{◌≡◌, ℕ, ◌+◌, ◌-◌, ◌*◌, ◌≤◌, true, false, ltb, if◌then◌else◌, Some, None, Option, List, [], ◌++◌, length, take, drop, sym, refl, ap, ◌∙◌, subst, arith, length-append}
+use Rattle.std.proofs.Common.{◌≡◌, ℕ, ◌+◌, ◌-◌, ◌*◌, ◌≤◌, Bool, true, false, ltb, if◌then◌else◌, Some, None, Ok, Err, Option, Result, List, [], ◌++◌, length, take, drop, sym, refl, ap, ◌∙◌, subst, zero-add, arith, length-append}
 use Rattle.std.proofs.lemmas.List.{append-nil, append_assoc, drop-drop, drop_all, drop_at, length-drop, length-take, take_all, take_at}
 use Rattle.std.proofs.lemmas.Bool.{le-ltb}
 use Rattle.std.proofs.lemmas.Bool.Decides.{nat_tests}
@@ -8,14 +8,17 @@ use Rattle.records.specs.Sections.{section_bytes, section_fits}
 use Rattle.records.specs.declared.record.Task.{Task}
 use Rattle.records.specs.declared.record.Message.{Message}
 use Rattle.records.proofs.Back.{length_joined}
+use Rattle.refusals.specs.Lines.{too_short}
 use Rattle.refusals.specs.Written.{written}
+use Rattle.refusals.specs.declared.refusal.BufferFault.{BufferFault}
 use Rattle.jobs.specs.Jobs.{Jobs}
 use Rattle.records.specs.declared.tables.Table.{Table}
 use Rattle.promise.specs.Tabled.{tabled}
 use Rattle.plan.specs.Held.{jobs}
 use Rattle.fabric.specs.declared.Fabric.{Ghosts}
 use Rattle.plan.specs.declared.plan.Plan.{Plan}
-use Rattle.plan.specs.Writing.{part_bytes, too_long}
+use Rattle.plan.specs.Round.{PartWritten}
+use Rattle.plan.specs.Writing.{part_bytes, too_long, write_left, write_length}
 
 -- no table holds more than it has places for
 pub few_tasks : {F : Type 0} {B : Ghosts F} (p : Plan F B) (most : ℕ) → 64 ≤ most → length (jobs p).tasks ≤ most
@@ -119,6 +122,16 @@ module _ (js : Jobs) (few : length js.tasks ≤ 128) (few_messages : length js.m
   pub messages_told : {a : Option ℕ} → a ≡ (if section_fits message_form ms (length behind) then Some (length (section_bytes message_form ms)) else None) → a ≡ Some (length (messages js))
   messages_told = whole_length message_form (λ m. refl) ms js.messages behind same_messages few_messages left
 
+  -- and the two lengths are that of the job part
+  pub whole_told : {a : Option ℕ} (n : ℕ) → a ≡ (if section_fits message_form ms (length behind) then Some (length (section_bytes message_form ms)) else None) → a ≡ Some n
+      → Ok (middle + n) ≡ write_length js (length out)
+  whole_told n told is =
+      let both = messages_told told in
+      let same : n ≡ length (messages js) = cc in
+      let sum : middle + n ≡ length (part_bytes js) = omega (arith, at, same, length-append (tasks js) (messages js)) in
+      let fits : too_long js (length out) ≡ false = length_tested js (length out) ∙ le-ltb (length out) _ enough in
+      ap Ok sum ∙ sym (ap (λ b. if b then Err too_short else Ok (length (part_bytes js))) fits)
+
   -- and then the buffer begins with the job part
   pub messages_written : {y : List ℕ} → y ≡ (if section_fits message_form ms (length behind) then section_bytes message_form ms ++ drop (length (section_bytes message_form ms)) behind else behind)
       → take middle x ++ (y ++ drop (length x - middle) (drop middle x)) ≡ (if too_long js (length out) then out else written out 0 (part_bytes js))
@@ -133,3 +146,14 @@ part_bound ts ms =
     part_small (tabled ts ms)
     (omega (arith, length-take ts.count ts.places, ts.fit))
     (omega (arith, length-take ms.count ms.places, ms.fit))
+
+-- what is told of a write, in the words of bytes
+pub part_written : (js : Jobs) (out after : List ℕ) (r : Result ℕ BufferFault) → r ≡ write_length js (length out) → after ≡ write_left js out → PartWritten js out r after
+part_written js out after r answer is =
+    subst (λ o. PartWritten js out o after) (sym answer)
+    (subst (PartWritten js out (write_length js (length out))) (sym is) (go (too_long js (length out)) refl))
+  where
+    go : (b : Bool) → b ≡ too_long js (length out)
+        → PartWritten js out (if b then Err too_short else Ok (length (part_bytes js))) (if b then out else written out 0 (part_bytes js))
+    go true e = (grind (arith, nat_tests, e), refl)
+    go false e = (refl, grind (arith, nat_tests, e), ap (λ n. part_bytes js ++ drop n out) (zero-add (length (part_bytes js))))

@@ -1,8 +1,8 @@
--- What a plan holds, and what it was created with. Assumes nothing.
+-- Meaning. What a plan holds, and what it was created with.
 use Rattle.std.specs.Prelude.{length}
 use Rattle.fabric.specs.declared.Fabric.{Ghosts}
 use Rattle.refusals.specs.declared.refusal.Counts.{Counts}
-use Rattle.jobs.specs.Jobs.{Jobs, Setting, over}
+use Rattle.jobs.specs.Jobs.{Jobs, Setting, created_on}
 use Rattle.promise.specs.Tabled.{tabled}
 use Rattle.plan.specs.declared.plan.Plan.{Plan}
 
@@ -16,4 +16,4 @@ counts_of js = record { tasks = length js.tasks; messages = length js.messages }
 
 -- the setting of a plan, by what its kind of fabric means
 abbrev pub setting : {F : Type 0} {B : Ghosts F} → Plan F B → Setting
-setting {B = B} p = over B.meaning p.fabric.now
+setting {B = B} p = created_on (B.meaning p.fabric.now)

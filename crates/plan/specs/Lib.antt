@@ -1,5 +1,9 @@
 pub mod Held
+pub mod Follows
+pub mod Checked
+pub mod After
 pub mod Loading
-pub mod Round
+pub mod Loads
 pub mod Told
 pub mod Writing
+pub mod Round

@@ -1,11 +1,10 @@
-// The layout of a job part: the tasks, the messages, and nothing after them.
-ghost use Rattle.plan.specs.Loading.{LaidOut, both_read, job_part};
-ghost use Rattle.records.specs.Forms.{message_of, task_of};
-ghost use Rattle.records.specs.Sections.{section_records};
-ghost use Rattle.std.specs.Prelude.{◌≡◌, ◌/◌, Err, MatchResult, length};
+//! The layout of a job part: the tasks, the messages, and nothing after them.
+ghost use Rattle.plan.specs.Loading.{BothCut, LaidOut, job_at, job_part, section_place};
+ghost use Rattle.std.specs.Prelude.{◌≡◌, ◌+◌, ◌/◌, Err, MatchResult, length};
 
 use crate::fault::LayoutFault;
-use records::record::{Message, Task};
+use jobs::job::Job;
+use records::record::{Message, Record, Task};
 use records::section::{Section, cut};
 use refusals::refusal::Counts;
 
@@ -27,11 +26,38 @@ impl<'a> JobPart<'a> {
             messages: self.messages.count(),
         }
     }
+
+    // How many records there are, of either kind.
+    pub(crate) fn len(&self) -> usize
+        ensures { result ≡ length self.now.tasks.bytes.now / 16 + length self.now.messages.bytes.now / 16 }
+    {
+        self.tasks.bytes.len() / Task::SIZE + self.messages.bytes.len() / Message::SIZE
+    }
+
+    // The job of a record, tasks before messages, or none past the last.
+    pub(crate) fn job(&self, at: usize) -> Option<Job>
+        ensures { result ≡ job_at self.now.tasks.bytes.now self.now.messages.bytes.now at }
+    {
+        let tasks = self.tasks.count();
+        if at < tasks {
+            self.tasks.get(at).map(Job::Task)
+        } else {
+            self.messages.get(at - tasks).map(Job::Message)
+        }
+    }
+
+    // The place of a record in its section.
+    pub(crate) fn place(&self, at: usize) -> usize
+        ensures { result ≡ section_place (length self.now.tasks.bytes.now / 16) at }
+    {
+        let tasks = self.tasks.count();
+        if at < tasks { at } else { at - tasks }
+    }
 }
 
 // The two sections of a job part, whole and with nothing after them.
 fn sections(part: &[u8]) -> Result<JobPart<'_>, LayoutFault>
-    ensures { MatchResult result (λ p. job_part part.now ≡ both_read (section_records task_of 16 p.tasks.bytes.now) (section_records message_of 16 p.messages.bytes.now)) (λ e. job_part part.now ≡ Err e) }
+    ensures { MatchResult result (λ p. BothCut part.now p.tasks.bytes.now p.messages.bytes.now) (λ e. job_part part.now ≡ Err e) }
 {
     let (tasks, rest) = cut::<Task>(part).map_err(|off| LayoutFault::TasksShort(off.whole))?;
     let (messages, rest) = cut::<Message>(rest).map_err(|off| LayoutFault::MessagesShort(

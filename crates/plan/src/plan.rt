@@ -1,5 +1,5 @@
-// One plan: a table of tasks and a table of messages.
-ghost use Rattle.jobs.specs.Jobs.{over};
+//! One plan: a table of tasks and a table of messages.
+ghost use Rattle.jobs.specs.Jobs.{created_on};
 ghost use Rattle.promise.specs.Canonical.{Canonical, ShortNames};
 ghost use Rattle.promise.specs.Clean.{Clean};
 ghost use Rattle.promise.specs.Tabled.{tabled};
@@ -17,13 +17,14 @@ mod writing;
 
 pub use writing::LONGEST_PART;
 
-// What is held is clean over the fabric for all of time, and stands in ascending names.
+/// At most 64 tasks and 128 messages, held over one fabric. What is held is clean over the fabric for all of time, stands in ascending
+/// names, and each name fits in two bytes: whoever has a plan has that.
 #[derive(Drop)]
 pub struct Plan<'f, F: Fabric> {
     fabric: &'f F,
     tasks: Table<Task, 64>,
     messages: Table<Message, 128>,
-    ghost clean: { ∥ Clean (over F.meaning fabric.now) (tabled tasks messages) ∥₁ },
+    ghost clean: { ∥ Clean (created_on (F.meaning fabric.now)) (tabled tasks messages) ∥₁ },
     ghost ordered: { Canonical (tabled tasks messages) },
     ghost short: { ShortNames (tabled tasks messages) },
 }

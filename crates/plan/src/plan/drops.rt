@@ -1,10 +1,11 @@
-// Droppings of tasks and messages.
+//! Droppings of tasks and messages.
 ghost use Rattle.jobs.specs.Drops.{drop_message, drop_task};
 ghost use Rattle.jobs.specs.Numbers.{drop_told};
+ghost use Rattle.plan.specs.After.{Leaves, MessageLess, TaskLess};
+ghost use Rattle.plan.specs.Follows.{Follows};
 ghost use Rattle.plan.specs.Held.{jobs, setting};
 ghost use Rattle.promise.specs.Clean.{Clean};
 ghost use Rattle.promise.specs.Droppings.{MessageDropped, TaskDropped};
-ghost use Rattle.refusals.specs.Told.{refusal_of};
 ghost use Rattle.std.specs.Prelude.{◌≡◌, false, is_ok};
 
 use super::Plan;
@@ -14,14 +15,12 @@ use jobs::message::names_task;
 use records::search::index_of;
 
 impl<'f, F: Fabric> Plan<'f, F> {
-    // Takes the task of this name out, unless a held message names it.
+    /// Takes the task of this name out. Refused with 21 where none has it, and with 22 where a held message names it.
     pub fn drop_task(&mut self, name: u16) -> Result<(), DropFault>
-        ensures answer { result ≡ (drop_task (jobs self.old) name).0 }
-        ensures told { refusal_of drop_told result ≡ refusal_of drop_told (drop_task (jobs self.old) name).0 }
-        ensures after { jobs self.new ≡ (drop_task (jobs self.old) name).1 }
-        ensures fabric { self.new.fabric ≡ self.old.fabric }
+        ensures follows { Follows self.old self.new result drop_told (drop_task (jobs self.old) name) }
         ensures refused { is_ok result ≡ false → self.new ≡ self.old }
-        ensures told_model { TaskDropped (jobs self.old) name result }
+        ensures promise { TaskDropped (jobs self.old) name result }
+        ensures left { Leaves (jobs self.old) (λ _. TaskLess (jobs self.old) name) result (jobs self.new) }
         ensures clean { Clean (setting self.new) (jobs self.new) }
     {
         if index_of(self.tasks.held(), name).is_none() {
@@ -34,15 +33,13 @@ impl<'f, F: Fabric> Plan<'f, F> {
         Ok(())
     }
 
-    // Takes the message of this name out.
+    /// Takes the message of this name out. Refused with 21 where none has it.
     #[tactic(auto, using(records::proofs::Places::index_named))]
     pub fn drop_message(&mut self, name: u16) -> Result<(), DropFault>
-        ensures answer { result ≡ (drop_message (jobs self.old) name).0 }
-        ensures told { refusal_of drop_told result ≡ refusal_of drop_told (drop_message (jobs self.old) name).0 }
-        ensures after { jobs self.new ≡ (drop_message (jobs self.old) name).1 }
-        ensures fabric { self.new.fabric ≡ self.old.fabric }
+        ensures follows { Follows self.old self.new result drop_told (drop_message (jobs self.old) name) }
         ensures refused { is_ok result ≡ false → self.new ≡ self.old }
-        ensures told_model { MessageDropped (jobs self.old) name result }
+        ensures promise { MessageDropped (jobs self.old) name result }
+        ensures left { Leaves (jobs self.old) (λ _. MessageLess (jobs self.old) name) result (jobs self.new) }
         ensures clean { Clean (setting self.new) (jobs self.new) }
     {
         self.messages.remove(name).ok_or(DropFault::Unknown)?;

@@ -1,20 +1,21 @@
-use Rattle.std.proofs.Common.{Ok, ◌≡◌, ℕ, map, Option, sym, ap, ◌∙◌, subst, rules}
-use Rattle.jobs.specs.Holding.{HolderIs, holder_among}
-use Rattle.jobs.specs.Meetings.{held_task}
-use Rattle.jobs.specs.Takes.{core}
-use Rattle.jobs.proofs.Holders.{holder_is, tasks_fit}
-use Rattle.plan.specs.Held.{jobs}
-use Rattle.plan.proofs.Stands.{core_told_of}
+use Rattle.std.proofs.Common.{◌≡◌, Ok, Err, rules}
+use Rattle.jobs.specs.Holding.{core_holder, no_place}
+use Rattle.jobs.specs.Places.{core}
+use Rattle.jobs.specs.Numbers.{place_told}
+use Rattle.plan.specs.Held.{jobs, setting}
+use Rattle.plan.proofs.Stands.{holder_answer_of, says_of}
 use Rattle.plan.proofs.plan.Plan.core_holder.Goals as goal
 
--- the holder among the held tasks
-pub returns-clause-holder : goal.returns-clause-holder
-returns-clause-holder g c =
-    let place = core c.args.core in
-    let n = c.args.instant in
-    let held = map held_task (jobs c.args.self.now).tasks in
-    let told : c.core_holder.result ≡ holder_among place n held = c.core_holder.ensures ∙ ap (λ ts. holder_among place n (map held_task ts)) c.held.ensures in
-    subst (λ (o : Option (ℕ × ℕ)). HolderIs held place n o) (sym told) (holder_is place n held (tasks_fit (jobs c.args.self.now).tasks))
+pub returns-then-core-nodes : goal.returns-then-core-nodes
+returns-then-core-nodes g c =
+    let p = c.args.self.now in
+    let rule = core_holder (setting p) (jobs p) c.args.core c.args.instant in
+    let answer : Err no_place ≡ rule = search rules in
+    record { follows = says_of (Err no_place) place_told rule answer; promise = holder_answer_of p (core c.args.core) c.args.instant (Err no_place) answer }
 
-pub returns-clause-told_model : goal.returns-clause-told_model
-returns-clause-told_model g c = core_told_of c.args.self.now c.args.core c.args.instant (Ok c.core_holder.result) (search rules)
+pub returns : goal.returns
+returns g c =
+    let p = c.args.self.now in
+    let rule = core_holder (setting p) (jobs p) c.args.core c.args.instant in
+    let answer : Ok c.task_holder.result ≡ rule = search rules in
+    record { follows = says_of (Ok c.task_holder.result) place_told rule answer; promise = holder_answer_of p (core c.args.core) c.args.instant (Ok c.task_holder.result) answer }

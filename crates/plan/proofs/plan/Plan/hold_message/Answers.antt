@@ -1,3 +1,4 @@
+use Rattle.fabric.specs.Network.{is_fabric}
 use Rattle.std.proofs.Common.{sym, subst}
 use Rattle.std.proofs.Math.Logic.{∥∥₁_map}
 use Rattle.plan.specs.Held.{jobs, setting}
@@ -15,7 +16,7 @@ invariant_of-self-clause-clean g c =
     let p = c.args.self.now in
     let s = setting p in
     subst (λ js. ∥ Clean s js ∥₁) (sym (message_in s p.tasks p.messages c.insert.new.self c.args.m c.insert.result c.requires c.insert.ensures.answer c.insert.ensures.after))
-    (∥∥₁_map p.clean (λ clean. message_taken s g.F.Fabric.longest g.F.Fabric.bounded (g.F.Fabric.lawful p.fabric.now) (jobs p) c.args.m clean c.requires))
+    (∥∥₁_map p.clean (λ clean. message_taken s (is_fabric g.F.Fabric.bounded (g.F.Fabric.lawful p.fabric.now)) (jobs p) c.args.m clean c.requires))
 
 -- and its names ascend
 pub invariant_of-self-clause-ordered : goal.invariant_of-self-clause-ordered

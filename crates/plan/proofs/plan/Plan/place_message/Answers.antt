@@ -1,12 +1,13 @@
-use Rattle.std.proofs.Common.{◌≡◌, None, sym, ◌∙◌, subst, rules}
-use Rattle.jobs.specs.Checks.{message_checks}
+use Rattle.std.proofs.Common.{◌≡◌, None, Ok, refl, sym, ◌∙◌, subst, rules}
 use Rattle.jobs.specs.Open.{message_at}
-use Rattle.jobs.specs.Placings.{first_delay}
+use Rattle.jobs.specs.Placings.{place_message}
 use Rattle.jobs.specs.Rules.{message_refusal}
 use Rattle.plan.specs.Held.{jobs, setting}
 use Rattle.promise.proofs.Kept.{message_placed_free}
-use Rattle.promise.proofs.Placing.{message_stays}
-use Rattle.plan.proofs.Stands.{clean_of, message_placing_of}
+use Rattle.jobs.specs.Numbers.{message_told, placing_told}
+use Rattle.plan.specs.After.{MessageMore}
+use Rattle.plan.proofs.Afters.{message_place_left}
+use Rattle.plan.proofs.Stands.{clean_of, follows_of, left_of, message_placing_of, stays_of}
 use Rattle.plan.proofs.plan.Plan.place_message.Goals as goal
 
 pub hold_message-requires : goal.hold_message-requires
@@ -16,21 +17,36 @@ hold_message-requires g c =
     subst (λ m. message_refusal s (jobs p) m ≡ None) (sym c.at.ensures)
     (message_placed_free s (jobs p) c.args.m c.in_ok-delay.delay (sym c.in_ok-delay.was ∙ c.delay_for.ensures))
 
-pub returns-in_err-delay-clause-after : goal.returns-in_err-delay-clause-after
-returns-in_err-delay-clause-after g c =
+pub returns-in_err-delay : goal.returns-in_err-delay
+returns-in_err-delay g c =
     let p = c.args.self.now in
-    let s = setting p in
-    message_stays (jobs p) c.args.m (message_checks s (jobs p) (message_at c.args.m 0) (λ s d r. None)) (first_delay s (jobs p) c.args.m) c.in_err-delay.field-0.0
-    (sym c.in_err-delay.was ∙ c.delay_for.ensures)
+    let m = c.args.m in
+    let rule = place_message (setting p) (jobs p) m in
+    let r = c.from_residual.result in
+    let left = message_place_left (setting p) (jobs p) m in
+    let answer : r ≡ rule.0 = search rules in
+    let after : jobs p ≡ rule.1 = stays_of rule r (jobs p) (λ v. MessageMore (jobs p) (message_at m v)) c.in_err-delay.field-0.0 left (sym c.in_err-delay.was ∙ c.delay_for.ensures) in
+    record {
+      follows = follows_of rule r p p (placing_told message_told) answer after refl;
+      refused = λ e. refl;
+      promise = message_placing_of p m r answer;
+      left = left_of rule r (jobs p) (jobs p) (λ v. MessageMore (jobs p) (message_at m v)) (message_place_left (setting p) (jobs p) m) answer after;
+      clean = clean_of p;
+    }
 
-pub returns-in_err-delay-clause-told_model : goal.returns-in_err-delay-clause-told_model
-returns-in_err-delay-clause-told_model g c = message_placing_of c.args.self.now c.args.m _ (search rules)
-
-pub returns-clause-told_model : goal.returns-clause-told_model
-returns-clause-told_model g c = message_placing_of c.args.self.now c.args.m _ (search rules)
-
-pub returns-in_err-delay-clause-clean : goal.returns-in_err-delay-clause-clean
-returns-in_err-delay-clause-clean g c = clean_of c.args.self.now
-
-pub returns-clause-clean : goal.returns-clause-clean
-returns-clause-clean g c = clean_of c.hold_message.new.self
+pub returns : goal.returns
+returns g c =
+    let p = c.args.self.now in
+    let q = c.hold_message.new.self in
+    let m = c.args.m in
+    let rule = place_message (setting p) (jobs p) m in
+    let r = Ok c.in_ok-delay.delay in
+    let answer : r ≡ rule.0 = search rules in
+    let after : jobs q ≡ rule.1 = search rules in
+    record {
+      follows = follows_of rule r p q (placing_told message_told) answer after c.hold_message.ensures.fabric;
+      refused = λ e. absurd cc;
+      promise = message_placing_of p m r answer;
+      left = left_of rule r (jobs p) (jobs q) (λ v. MessageMore (jobs p) (message_at m v)) (message_place_left (setting p) (jobs p) m) answer after;
+      clean = clean_of q;
+    }

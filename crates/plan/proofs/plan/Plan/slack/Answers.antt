@@ -1,33 +1,22 @@
-use Rattle.std.proofs.Common.{◌≡◌, ℤ, ℕ, Some, None, Option, IfOk, sym, ap, ◌∙◌, subst, rules}
-use Rattle.std.specs.Option.{ok_or}
-use Rattle.records.specs.Named.{named}
-use Rattle.jobs.specs.Jobs.{Jobs, Setting, message_name}
-use Rattle.jobs.specs.Slacks.{HeldSlack, slack_among, slack_held}
-use Rattle.jobs.specs.declared.fault.DropFault.TheVariants.{Unknown}
-use Rattle.jobs.proofs.Slacks.{held_slack}
+use Rattle.std.proofs.Common.{◌≡◌, rules}
+use Rattle.jobs.specs.Numbers.{drop_told}
+use Rattle.jobs.specs.Slacks.{slack}
 use Rattle.plan.specs.Held.{jobs, setting}
-use Rattle.plan.proofs.Stands.{slack_told_of}
+use Rattle.plan.proofs.Stands.{says_of, slack_told_of}
 use Rattle.plan.proofs.plan.Plan.slack.Goals as goal
 
--- a slack that is told is that of some packet, and no packet's is less
-least : (s : Setting) (js : Jobs) (name : ℕ) (o : Option ℤ) → slack_held s js (named message_name name js.messages) ≡ o → IfOk (ok_or o Unknown) (HeldSlack s js name)
-least s js name None is = tt
-least s js name (Some v) is = held_slack s js name v is
-
--- what the message's own slack is, is the held message's
-pub returns-clause-least : goal.returns-clause-least
-returns-clause-least g c =
+pub returns-in_err-m : goal.returns-in_err-m
+returns-in_err-m g c =
     let p = c.args.self.now in
-    let s = setting p in
-    let m = c.in_ok-m.m in
-    let found : named message_name c.args.name (jobs p).messages ≡ Some m = search rules in
-    let told : c.slack_of.result ≡ slack_among s (jobs p).tasks m =
-    c.slack_of.ensures ∙ ap (λ x. slack_among x c.board.result.tasks.now m) c.board.ensures.over ∙ ap (λ ts. slack_among s ts m) c.board.ensures.tasks in
-    let is : slack_held s (jobs p) (named message_name c.args.name (jobs p).messages) ≡ c.slack_of.result = ap (slack_held s (jobs p)) found ∙ sym told in
-    subst (λ r. IfOk r (HeldSlack s (jobs p) c.args.name)) (sym c.ok_or-2.ensures.value) (least s (jobs p) c.args.name c.slack_of.result is)
+    let rule = slack (setting p) (jobs p) c.args.name in
+    let r = c.from_residual.result in
+    let answer : r ≡ rule = search rules in
+    record { follows = says_of r drop_told rule answer; promise = slack_told_of p c.args.name r answer }
 
-pub returns-in_err-m-clause-told_model : goal.returns-in_err-m-clause-told_model
-returns-in_err-m-clause-told_model g c = slack_told_of c.args.self.now c.args.name _ (search rules)
-
-pub returns-clause-told_model : goal.returns-clause-told_model
-returns-clause-told_model g c = slack_told_of c.args.self.now c.args.name _ (search rules)
+pub returns : goal.returns
+returns g c =
+    let p = c.args.self.now in
+    let rule = slack (setting p) (jobs p) c.args.name in
+    let r = c.ok_or-2.result in
+    let answer : r ≡ rule = search rules in
+    record { follows = says_of r drop_told rule answer; promise = slack_told_of p c.args.name r answer }
