@@ -45,29 +45,16 @@ module _ (js : Jobs) (room k : ℕ) (page : List ℕ) (small : length (part_byte
 
 -- what was written is read off the page again
 pub read_back : (r : Said) (page : List ℕ) {after : List ℕ} → after ≡ written page 0 (bytes_given r) → read_off after (giving length r) ≡ r
-read_back (answer.TaskOffered r) page e = refl
-read_back (answer.MessageOffered r) page e = refl
-read_back (answer.TaskPlaced r) page e = refl
-read_back (answer.MessagePlaced r) page e = refl
-read_back (answer.Dropped r) page e = refl
-read_back (answer.Loaded r) page e = refl
-read_back (answer.Slack r) page e = refl
-read_back (answer.Holder r) page e = refl
+read_back (answer.Written (Ok bytes)) page e =
+    ap (λ l. answer.Written (Ok l)) (ap (take (length bytes)) e ∙ take_at bytes (drop (0 + length bytes) page) (length bytes) refl)
 read_back (answer.Written (Err x)) page e = refl
-read_back (answer.Written (Ok bytes)) page e = ap (λ l. answer.Written (Ok l)) (ap (take (length bytes)) e ∙ take_at bytes (drop (0 + length bytes) page) (length bytes) refl)
+read_back other page e = refl
 
 -- what an answer refuses does not hang on what a write gives
 pub told_same : {V W : Type 0} (f : V → W) (r : Answer V) → answer_told (giving f r) ≡ answer_told r
-told_same f (answer.TaskOffered r) = refl
-told_same f (answer.MessageOffered r) = refl
-told_same f (answer.TaskPlaced r) = refl
-told_same f (answer.MessagePlaced r) = refl
-told_same f (answer.Dropped r) = refl
-told_same f (answer.Loaded r) = refl
-told_same f (answer.Slack r) = refl
-told_same f (answer.Holder r) = refl
 told_same f (answer.Written (Ok x)) = refl
 told_same f (answer.Written (Err e)) = refl
+told_same f other = refl
 
 pub all_told_same : {V W : Type 0} (f : V → W) (rs : List (Answer V)) → map answer_told (map (giving f) rs) ≡ map answer_told rs
 all_told_same f [] = refl

@@ -2,11 +2,10 @@
 use Rattle.std.proofs.Common.{◌≡◌, ℕ, ◌+◌, ◌<◌, ◌≤◌, List, [], ◌∷◌, ◌++◌, map, length, get_or, drop, sym, ap, ◌∙◌}
 use Rattle.std.proofs.lemmas.List.{drop_more, drop_all, append_assoc, append-nil}
 use Rattle.jobs.specs.Jobs.{Setting, Jobs}
-use Rattle.replay.specs.declared.calls.Call.{Call}
-use Rattle.replay.specs.Calls.{Said, asked, ask, held, answers}
+use Rattle.replay.specs.Calls.{Lent, Said, asked, ask, held, answers}
 
-module _ (g : Setting) (calls : List Call) (i : ℕ) (js : Jobs) where
-  module _ (d : Call) (after : Jobs) (more : i < length calls) (moved : after ≡ (ask g js (asked (get_or calls i d))).1) where
+module _ (g : Setting) (calls : List Lent) (i : ℕ) (js : Jobs) where
+  module _ (d : Lent) (after : Jobs) (more : i < length calls) (moved : after ≡ (ask g js (asked (get_or calls i d))).1) where
     -- the answer of the call at a place comes next, and the others follow from what is held then
     pub answers_on : (out next : List Said) (r : Said) (all : List Said) → r ≡ (ask g js (asked (get_or calls i d))).0 → next ≡ out ++ r ∷ []
         → out ++ answers g js (map asked (drop i calls)) ≡ all → next ++ answers g after (map asked (drop (i + 1) calls)) ≡ all

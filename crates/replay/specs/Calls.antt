@@ -1,21 +1,21 @@
--- Lists of calls: what they answer and what is held after them, from the setting and the calls' arguments alone. Assumes nothing.
---   Ask              a call by its arguments
---   ask              what one call answers, a write by its bytes, and what is held after it
---   answers, held    the same of a list of calls
---   giving           the same answer with something made of what a write gives
---   read_off         the answer with the bytes that a write left on a page
---   answer_told      the number and values of what an answer refuses
-use Rattle.std.specs.Prelude.{ℕ, Bool, true, false, List, [], ◌∷◌, take, ◌⊎◌, Ok, Err, Option, Result}
+-- Rule. Lists of calls: what they answer and what is held after them, from the setting and the calls' arguments alone.
+--   Ask, Lent, asked            a call by its arguments, one whose job part is lent, and what that asks
+--   Said                        an answer in which a taken write gives its bytes
+--   ask                         what one call answers, and what is held after it
+--   answers, held, new_answers  the same of a list of calls, and of one on a new plan
+--   keeps_plan                  the answers that leave the plan as it is
+--   giving, all_said            the same answer with something made of what a write gives, and answers by the bytes that they own
+--   read_off, bytes_given, length_given    of a write: from a page, and what it tells
+--   answer_told                 the number and values of what an answer refuses
+use Rattle.std.specs.Prelude.{ℕ, Bool, true, false, List, [], ◌∷◌, map, take, ◌⊎◌, Ok, Option, Vec, vec_items}
 use Rattle.std.proofs.Common.{inl, inr}
-use Rattle.std.specs.Result.{result_map_both}
-use Rattle.records.specs.declared.record.Task.{Task}
-use Rattle.records.specs.declared.record.Message.{Message}
+use Rattle.std.specs.Borrow.{Bor}
+use Rattle.std.specs.declared.alloc.Global.{Global}
+use Rattle.std.specs.Result.{is_err, result_map_both}
 use Rattle.refusals.specs.Told.{buffer_told, refusal_of}
 use Rattle.refusals.specs.declared.refusal.Refusal.{Refusal}
 use Rattle.refusals.specs.declared.refusal.Told.{Told}
-use Rattle.jobs.specs.declared.open.OpenTask.{OpenTask}
-use Rattle.jobs.specs.declared.open.OpenMessage.{OpenMessage}
-use Rattle.jobs.specs.Jobs.{Setting, Jobs}
+use Rattle.jobs.specs.Jobs.{Setting, Jobs, nothing}
 use Rattle.jobs.specs.Numbers.{drop_told, message_told, place_told, placing_told, task_told}
 use Rattle.jobs.specs.Rules.{offer_task, offer_message}
 use Rattle.jobs.specs.Placings.{place_task, place_message}
@@ -30,32 +30,26 @@ use Rattle.replay.specs.declared.calls.Call.TheVariants as call
 use Rattle.replay.specs.declared.calls.Answer.{Answer}
 use Rattle.replay.specs.declared.calls.Answer.TheVariants as answer
 
--- a call by its arguments
-pub data Ask : Type 0 where
-  offering_task : Task → Ask
-  offering_message : Message → Ask
-  placing_task : OpenTask → Ask
-  placing_message : OpenMessage → Ask
-  dropping_task : ℕ → Ask
-  dropping_message : ℕ → Ask
-  loading : List ℕ → Ask
-  asking_slack : ℕ → Ask
-  asking_core : ℕ → ℕ → Ask
-  asking_link : ℕ → ℕ → Ask
-  writing : ℕ → Ask
+-- a call by its arguments, a load with the bytes of its job part
+abbrev pub Ask : Type 0
+Ask = Call (List ℕ)
 
-abbrev pub asked : Call → Ask
-asked (call.OfferTask t) = offering_task t
-asked (call.OfferMessage m) = offering_message m
-asked (call.PlaceTask t) = placing_task t
-asked (call.PlaceMessage m) = placing_message m
-asked (call.DropTask n) = dropping_task n
-asked (call.DropMessage n) = dropping_message n
-asked (call.Load part) = loading part.now
-asked (call.Slack n) = asking_slack n
-asked (call.CoreHolder c n) = asking_core c n
-asked (call.LinkHolder l n) = asking_link l n
-asked (call.Write room) = writing room
+-- a call whose job part is lent
+abbrev pub Lent : Type 0
+Lent = Call (Bor (List ℕ))
+
+abbrev pub asked : Lent → Ask
+asked (call.OfferTask t) = call.OfferTask t
+asked (call.OfferMessage m) = call.OfferMessage m
+asked (call.PlaceTask t) = call.PlaceTask t
+asked (call.PlaceMessage m) = call.PlaceMessage m
+asked (call.DropTask n) = call.DropTask n
+asked (call.DropMessage n) = call.DropMessage n
+asked (call.Load part) = call.Load part.now
+asked (call.Slack n) = call.Slack n
+asked (call.CoreHolder c n) = call.CoreHolder c n
+asked (call.LinkHolder l n) = call.LinkHolder l n
+asked (call.Write room) = call.Write room
 
 -- an answer in which a taken write gives its bytes
 abbrev pub Said : Type 0
@@ -63,17 +57,17 @@ Said = Answer (List ℕ)
 
 -- what a call answers, and what is held after it
 abbrev pub ask : Setting → Jobs → Ask → Said × Jobs
-ask g js (offering_task t) = (answer.TaskOffered (offer_task g js t).0, (offer_task g js t).1)
-ask g js (offering_message m) = (answer.MessageOffered (offer_message g js m).0, (offer_message g js m).1)
-ask g js (placing_task t) = (answer.TaskPlaced (place_task g js t).0, (place_task g js t).1)
-ask g js (placing_message m) = (answer.MessagePlaced (place_message g js m).0, (place_message g js m).1)
-ask g js (dropping_task n) = (answer.Dropped (drop_task js n).0, (drop_task js n).1)
-ask g js (dropping_message n) = (answer.Dropped (drop_message js n).0, (drop_message js n).1)
-ask g js (loading part) = (answer.Loaded (load g js part).0, (load g js part).1)
-ask g js (asking_slack n) = (answer.Slack (slack g js n), js)
-ask g js (asking_core c n) = (answer.Holder (core_holder g js c n), js)
-ask g js (asking_link l n) = (answer.Holder (link_holder g js l n), js)
-ask g js (writing room) = (answer.Written (write js room), js)
+ask g js (call.OfferTask t) = (answer.TaskOffered (offer_task g js t).0, (offer_task g js t).1)
+ask g js (call.OfferMessage m) = (answer.MessageOffered (offer_message g js m).0, (offer_message g js m).1)
+ask g js (call.PlaceTask t) = (answer.TaskPlaced (place_task g js t).0, (place_task g js t).1)
+ask g js (call.PlaceMessage m) = (answer.MessagePlaced (place_message g js m).0, (place_message g js m).1)
+ask g js (call.DropTask n) = (answer.Dropped (drop_task js n).0, (drop_task js n).1)
+ask g js (call.DropMessage n) = (answer.Dropped (drop_message js n).0, (drop_message js n).1)
+ask g js (call.Load part) = (answer.Loaded (load g js part).0, (load g js part).1)
+ask g js (call.Slack n) = (answer.Slack (slack g js n), js)
+ask g js (call.CoreHolder c n) = (answer.Holder (core_holder g js c n), js)
+ask g js (call.LinkHolder l n) = (answer.Holder (link_holder g js l n), js)
+ask g js (call.Write room) = (answer.Written (write js room), js)
 
 -- what is held after the calls
 abbrev pub held : Setting → Jobs → List Ask → Jobs
@@ -85,21 +79,19 @@ abbrev pub answers : Setting → Jobs → List Ask → List Said
 answers g js [] = []
 answers g js (a ∷ rest) = (ask g js a).0 ∷ answers g (ask g js a).1 rest
 
-abbrev pub refused : {T E : Type 0} → Result T E → Bool
-refused (Ok x) = false
-refused (Err e) = true
+-- what calls answer on a new plan
+abbrev pub new_answers : Setting → List Lent → List Said
+new_answers g calls = answers g nothing (map asked calls)
 
 -- a refused offer, placing or dropping, a question or a write: the plan stays as it is
-abbrev pub stays : {W : Type 0} → Answer W → Bool
-stays (answer.TaskOffered r) = refused r
-stays (answer.MessageOffered r) = refused r
-stays (answer.TaskPlaced r) = refused r
-stays (answer.MessagePlaced r) = refused r
-stays (answer.Dropped r) = refused r
-stays (answer.Loaded r) = false
-stays (answer.Slack r) = true
-stays (answer.Holder r) = true
-stays (answer.Written r) = true
+abbrev pub keeps_plan : {W : Type 0} → Answer W → Bool
+keeps_plan (answer.TaskOffered r) = is_err r
+keeps_plan (answer.MessageOffered r) = is_err r
+keeps_plan (answer.TaskPlaced r) = is_err r
+keeps_plan (answer.MessagePlaced r) = is_err r
+keeps_plan (answer.Dropped r) = is_err r
+keeps_plan (answer.Loaded r) = false
+keeps_plan question = true
 
 -- the same answer, with something made of what a taken write gives
 abbrev pub giving : {V W : Type 0} → (V → W) → Answer V → Answer W
@@ -116,6 +108,15 @@ giving f (answer.Written r) = answer.Written (result_map_both f (λ e. e) r)
 -- the answer that tells the length of what a write left at the front of the page, with those bytes
 abbrev pub read_off : List ℕ → Answer ℕ → Said
 read_off page = giving (λ n. take n page)
+
+-- how many bytes an answer says that a write left; none of any other answer
+abbrev pub length_given : Answer ℕ → ℕ
+length_given (answer.Written (Ok n)) = n
+length_given r = 0
+
+-- answers that own their bytes, by these
+abbrev pub all_said : List (Answer (Vec ℕ Global)) → List Said
+all_said = map (giving vec_items)
 
 -- the bytes of a taken write, and no bytes of any other answer
 abbrev pub bytes_given : Said → List ℕ

@@ -1,5 +1,5 @@
-// What the types of a call's values say of them, where a definition speaks of numbers of any size: a name fits in two bytes, and a
-// lent job part is bytes. It is known only of values that are read, so these functions read them and do nothing else.
+//! What the types of a call's values say of them, where a definition speaks of numbers of any size: a name fits in two bytes, and a
+//! lent job part is bytes. It is known only of values that are read, so these functions read them and do nothing else.
 ghost use Rattle.records.specs.Bytes.{Bytes};
 ghost use Rattle.replay.specs.Calls.{asked};
 ghost use Rattle.replay.specs.Short.{ShortAsk};
@@ -15,7 +15,7 @@ fn part_fits(part: &[u8])
     ensures fits { Bytes part.now }
 {}
 
-pub(crate) fn call_fits(call: &Call<'_>)
+pub(crate) fn call_fits(call: &Call<&[u8]>)
     ensures fits { ShortAsk (asked call.now) }
 {
     match *call {
@@ -28,7 +28,7 @@ pub(crate) fn call_fits(call: &Call<'_>)
     }
 }
 
-pub(crate) fn calls_fit(calls: &[Call<'_>])
+pub(crate) fn calls_fit(calls: &[Call<&[u8]>])
     ensures fits { All (λ call. ShortAsk (asked call)) calls.now }
 {
     for call in calls {

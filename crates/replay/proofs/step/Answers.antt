@@ -1,4 +1,5 @@
 use Rattle.std.proofs.Common.{length, sym, ap, ◌∙◌, subst}
+use Rattle.fabric.specs.Network.{is_fabric}
 use Rattle.plan.specs.Held.{jobs, setting}
 use Rattle.plan.proofs.Stands.{back_of, clean_of}
 use Rattle.replay.specs.Calls.{answer_told, ask, asked, read_off}
@@ -14,7 +15,6 @@ returns g c =
     let after_it = c.dispatch.new.plan in
     let s = setting p in
     let a = asked c.args.call.now in
-    let laws = g.F.Fabric.lawful p.fabric.now in
     let clean = clean_of p in
     let read = ap (read_off c.dispatch.new.page) c.dispatch.ensures.answer ∙ read_back (ask s (jobs p) a).0 c.args.page.now c.dispatch.ensures.page in
     record {
@@ -24,7 +24,7 @@ returns g c =
       fabric = c.dispatch.ensures.fabric;
       unchanged = c.dispatch.ensures.unchanged;
       keeps = clean_of after_it;
-      told = subst (Told s (jobs p) a) (sym read) (told s g.F.Fabric.longest g.F.Fabric.bounded laws (jobs p) clean a);
+      promise = subst (Told s (jobs p) a) (sym read) (told s (is_fabric g.F.Fabric.bounded (g.F.Fabric.lawful p.fabric.now)) (jobs p) clean a);
       numbers = ap answer_told c.dispatch.ensures.answer ∙ told_same length (ask s (jobs p) a).0;
       left = subst (λ r. After s (jobs p) a r (jobs after_it)) (sym read)
           (subst (After s (jobs p) a (ask s (jobs p) a).0) (sym c.dispatch.ensures.after) (after s (jobs p) clean a));
