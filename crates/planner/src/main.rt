@@ -1,4 +1,4 @@
-// Runs the script that standard input holds, and prints each line with what it is answered.
+//! Runs the script that standard input holds, and prints each line with what it is answered.
 #![tactic(auto)]
 
 use script::transcript::transcript;

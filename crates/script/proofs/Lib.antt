@@ -1,5 +1,4 @@
 mod Texts
 mod ReadBack
-mod Runs
 mod Hexes
-mod Parts
+mod Printed

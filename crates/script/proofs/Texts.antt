@@ -1,14 +1,14 @@
--- How the parts of a line are read, byte by byte. Assumes nothing.
-use Rattle.std.proofs.Common.{◌≡◌, ℕ, zero, suc, ◌+◌, ◌*◌, ◌/◌, ◌%◌, ◌<◌, ◌≤◌, Bool, true, false, cond, not, ◌&&◌, ◌==◌, ltb, leb, ◌⊎◌, List, [], ◌∷◌, ◌++◌, length, get_or, take, drop, Some, None, Option, sym, refl, ap, ◌∙◌, inl, inr, arith, Bor, MatchOption}
+-- How the parts of a line are read, byte by byte.
+use Rattle.std.proofs.Common.{◌≡◌, ℕ, zero, suc, ◌+◌, ◌*◌, ◌/◌, ◌%◌, ◌<◌, ◌≤◌, Bool, true, false, cond, ◌&&◌, ◌==◌, ltb, leb, ◌⊎◌, List, [], ◌∷◌, ◌++◌, length, get_or, drop, Some, None, Option, sym, refl, ap, ◌∙◌, inl, inr, arith, Bor, MatchOption}
 use Rattle.std.proofs.lemmas.List.{at_drop_more, at_drop_all, append_assoc, append-nil}
 use Rattle.std.proofs.lemmas.Bool.Decides.{eqb_tells, leb_tells, nat_tests}
 use Rattle.std.specs.Simd.{first_chunks}
 use Rattle.std.specs.Str.Parse.{digits_value_after}
-use Rattle.std.specs.Option.{SomeIff}
-use Rattle.std.specs.List.{position, position_or_len}
+use Rattle.std.specs.Option.{SomeIff, option_map}
+use Rattle.std.specs.List.{position}
 use Rattle.std.specs.Char.{digit_value}
 use Rattle.std.specs.Str.{all_ascii_digits}
-use Rattle.script.specs.Fields.{after, field, number, pair, then, unhexed, word_length}
+use Rattle.script.specs.Fields.{◌>>=◌, after, field, number, number_before, pair, unhexed}
 
 -- a text that begins with the front goes on with the rest
 pub after_some : (front text rest : List ℕ) → text ≡ front ++ rest → after front text ≡ Some rest
@@ -59,31 +59,13 @@ none_at_large most n i d text h is large inv =
     let none = read_too_large most n (get_or text i 0) (drop (i + 1) text) (rw is at large) in
     sym none ∙ sym (at_drop_more (read_on most n) text i 0 h) ∙ inv ∙ number_is most text (omega arith)
 
--- the first space ends the word
-word_is : (text : List ℕ) → position_or_len (λ b. b == 32) text ≡ word_length text
-word_is [] = refl
-word_is (b ∷ bs) =
-    elim (b == 32) as (λ t. cond (not t) (1 + position_or_len (λ x. x == 32) bs) 0 ≡ cond t 0 (1 + word_length bs))
-    [ true ↦ refl | false ↦ ap (λ n. 1 + n) (word_is bs) ]
-
-space_is : (text : List ℕ) → position (λ b. b == 32) text ≡ cond (ltb (word_length text) (length text)) (Some (word_length text)) None
-space_is text = ap (λ n. cond (ltb n (length text)) (Some n) None) (word_is text)
-
 -- without a space there is no field
 pub field_unended : (most : ℕ) (text : List ℕ) → position (λ b. b == 32) text ≡ None → field most text ≡ None
-field_unended most text none = go (ltb (word_length text) (length text)) refl (sym (space_is text) ∙ none)
-  where
-    go : (t : Bool) → ltb (word_length text) (length text) ≡ t → cond t (Some (word_length text)) None ≡ None → field most text ≡ None
-    go true is e = cc
-    go false is e = rw is
+field_unended most text none = ap (λ o. o >>= number_before most text) none
 
 -- up to the first space stands the field's number, or none
-pub field_ended : (most end : ℕ) (text : List ℕ) → position (λ b. b == 32) text ≡ Some end → field most text ≡ then (number most (take end text)) (λ n. Some (n, drop (end + 1) text))
-field_ended most end text at = go (ltb (word_length text) (length text)) refl (sym (space_is text) ∙ at)
-  where
-    go : (t : Bool) → ltb (word_length text) (length text) ≡ t → cond t (Some (word_length text)) None ≡ Some end → field most text ≡ then (number most (take end text)) (λ n. Some (n, drop (end + 1) text))
-    go true is e = let same : word_length text ≡ end = cc in rw (is, same)
-    go false is e = cc
+pub field_ended : (most end : ℕ) (text : List ℕ) → position (λ b. b == 32) text ≡ Some end → field most text ≡ number_before most text end
+field_ended most end text at = ap (λ o. o >>= number_before most text) at
 
 -- bytes in front of those that are left to read
 abbrev pub in_front : List ℕ → Option (List ℕ) → Option (List ℕ)
@@ -133,7 +115,7 @@ pairs_none ps i bs all h other inv =
     let e : in_front bs (pairs_read (p ∷ drop (i + 1) ps)) ≡ None = rw t in
     sym e ∙ sym (at_drop_more (λ l. in_front bs (pairs_read l)) ps i [] h) ∙ inv
 
-pushed_front : (bs : List ℕ) (x : ℕ) (rest : Option (List ℕ)) → in_front bs (then rest (λ more. Some (x ∷ more))) ≡ in_front (bs ++ (x ∷ [])) rest
+pushed_front : (bs : List ℕ) (x : ℕ) (rest : Option (List ℕ)) → in_front bs (option_map (λ more. x ∷ more) rest) ≡ in_front (bs ++ (x ∷ [])) rest
 pushed_front bs x None = refl
 pushed_front bs x (Some more) = ap Some (sym (append_assoc bs (x ∷ []) more))
 

@@ -1,10 +1,8 @@
 pub mod Fields
 pub mod Forms
-pub mod Owned
 pub mod Readings
 pub mod Lines
 pub mod Replies
-pub mod Running
 pub mod Fabrics
 pub mod Transcripts
-pub mod Parts
+pub mod Running

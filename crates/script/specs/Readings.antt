@@ -1,11 +1,13 @@
--- What a line of a script says. Assumes nothing.
+-- Meaning. What a line of a script says.
 --   Reading      nothing, no line of the language, a fabric, or a call by its arguments
---   said         what a line that was read says
---   call_line    the lines that are words and numbers, by their first words
+--   reading         what a line that was read says
+--   read_call    the lines that are words and numbers, by their first words
 --   read_line    every line
-use Rattle.std.specs.Prelude.{ℕ, cond, List, [], ◌∷◌, Some, None, vec_items, codes, Option, ◌==◌}
-use Rattle.replay.specs.Calls.{Ask, loading, asked}
-use Rattle.script.specs.Fields.{after, unhexed}
+use Rattle.std.specs.Prelude.{ℕ, cond, List, [], ◌∷◌, None, vec_items, codes, Option, ◌==◌}
+use Rattle.std.specs.Option.{option_map, option_map_or}
+use Rattle.replay.specs.Calls.{Ask, asked}
+use Rattle.replay.specs.declared.calls.Call.TheVariants as call
+use Rattle.script.specs.Fields.{after, number, unhexed}
 use Rattle.script.specs.Forms as form
 use Rattle.script.specs.declared.line.Line.{Line}
 use Rattle.script.specs.declared.line.Line.TheVariants as line
@@ -17,54 +19,58 @@ pub data Reading : Type 0 where
   listed_fabric : List ℕ → Reading
   calling : Ask → Reading
 
-abbrev pub said : Line → Reading
-said line.Blank = blank
-said line.Unread = unread
-said (line.Mesh x y delay) = mesh_fabric x y delay
-said (line.Listed file) = listed_fabric (vec_items file)
-said (line.Load part) = calling (loading (vec_items part))
-said (line.Plain call) = calling (asked call)
+abbrev pub reading : Line → Reading
+reading line.Blank = blank
+reading line.Unread = unread
+reading (line.Mesh x y delay) = mesh_fabric x y delay
+reading (line.Listed file) = listed_fabric (vec_items file)
+reading (line.Load part) = calling (call.Load (vec_items part))
+reading (line.Plain c) = calling (asked c)
 
 -- a text that begins with these words says what its form makes of the rest, and any other text something else
-abbrev pub by_words : {A : Type 0} → Option (List ℕ) → (List ℕ → A) → A → A
-by_words (Some rest) form other = form rest
-by_words None form other = other
+abbrev pub after_words : {A : Type 0} → List ℕ → (List ℕ → A) → List ℕ → A → A
+after_words words form text other = option_map_or form (after words text) other
 
-abbrev pub on : {A : Type 0} → List ℕ → (List ℕ → A) → List ℕ → A → A
-on words form text other = by_words (after words text) form other
+abbrev pub name : List ℕ → Option ℕ
+name = number (form.most 16)
+
+abbrev pub core_holder : ℕ × ℕ → Ask
+core_holder p = call.CoreHolder p.0 p.1
+
+abbrev pub link_holder : ℕ × ℕ → Ask
+link_holder p = call.LinkHolder p.0 p.1
 
 -- the lines that are words and numbers
-abbrev pub call_line : List ℕ → Option Ask
-call_line text =
-    on (codes "offer task ") form.offer_task text
-    (on (codes "offer message ") form.offer_message text
-    (on (codes "place task ") form.place_task text
-    (on (codes "place message ") form.place_message text
-    (on (codes "drop task ") form.drop_task text
-    (on (codes "drop message ") form.drop_message text
-    (on (codes "slack ") form.slack_of text
-    (on (codes "holder core ") form.holder_core text
-    (on (codes "holder link ") form.holder_link text
-    (on (codes "write ") form.write text
+abbrev pub read_call : List ℕ → Option Ask
+read_call text =
+    after_words (codes "offer task ") (λ rest. option_map call.OfferTask (form.task rest)) text
+    (after_words (codes "offer message ") (λ rest. option_map call.OfferMessage (form.message rest)) text
+    (after_words (codes "place task ") (λ rest. option_map call.PlaceTask (form.open_task rest)) text
+    (after_words (codes "place message ") (λ rest. option_map call.PlaceMessage (form.open_message rest)) text
+    (after_words (codes "drop task ") (λ rest. option_map call.DropTask (name rest)) text
+    (after_words (codes "drop message ") (λ rest. option_map call.DropMessage (name rest)) text
+    (after_words (codes "slack ") (λ rest. option_map call.Slack (name rest)) text
+    (after_words (codes "holder core ") (λ rest. option_map core_holder (form.holder rest)) text
+    (after_words (codes "holder link ") (λ rest. option_map link_holder (form.holder rest)) text
+    (after_words (codes "write ") (λ rest. option_map call.Write (number (form.most 64) rest)) text
     None)))))))))
 
 -- what is there, or that the line is unread
 abbrev pub or_unread : {A : Type 0} → (A → Reading) → Option A → Reading
-or_unread say None = unread
-or_unread say (Some x) = say x
+or_unread say o = option_map_or say o unread
 
-abbrev pub mesh_line : List ℕ → Reading
-mesh_line text = or_unread (λ m. mesh_fabric m.0 m.1 m.2) (form.mesh text)
+abbrev pub read_mesh : List ℕ → Reading
+read_mesh text = or_unread (λ m. mesh_fabric m.0 m.1 m.2) (form.mesh text)
 
 -- any line that is not blank
-abbrev pub text_line : List ℕ → Reading
-text_line text =
-    on (codes "fabric mesh ") mesh_line text
-    (on (codes "fabric listed ") (λ rest. or_unread listed_fabric (unhexed rest)) text
-    (on (codes "load ") (λ rest. or_unread (λ part. calling (loading part)) (unhexed rest)) text
-    (or_unread calling (call_line text))))
+abbrev pub read_text : List ℕ → Reading
+read_text text =
+    after_words (codes "fabric mesh ") read_mesh text
+    (after_words (codes "fabric listed ") (λ rest. or_unread listed_fabric (unhexed rest)) text
+    (after_words (codes "load ") (λ rest. or_unread (λ part. calling (call.Load part)) (unhexed rest)) text
+    (or_unread calling (read_call text))))
 
 -- a line that is empty or begins with `#` says nothing
 abbrev pub read_line : List ℕ → Reading
 read_line [] = blank
-read_line (b ∷ bs) = cond (b == 35) blank (text_line (b ∷ bs))
+read_line (b ∷ bs) = cond (b == 35) blank (read_text (b ∷ bs))

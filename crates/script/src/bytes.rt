@@ -1,14 +1,13 @@
-// Bytes written in hexadecimal.
+//! Bytes written in hexadecimal.
 ghost use Rattle.script.specs.Fields.{unhexed};
-ghost use Rattle.script.specs.Owned.{owned};
-ghost use Rattle.std.specs.Prelude.{◌≡◌, IfOk};
+ghost use Rattle.std.specs.Option.{option_map};
+ghost use Rattle.std.specs.Prelude.{◌≡◌, vec_items, IfOk};
 
 use std::alloc::{AllocError, Global};
 
-// The bytes that pairs of hexadecimal digits write. A loop, since a pair that is no byte ends it with `None`, and a push that
-// fails with an error.
+// The bytes that pairs of hexadecimal digits write.
 pub(crate) fn unhexed(heap: Global, text: &[u8]) -> Result<Option<Vec<u8>>, AllocError>
-    ensures { IfOk result (λ bytes. owned bytes ≡ unhexed text.now) }
+    ensures { IfOk result (λ bytes. option_map vec_items bytes ≡ unhexed text.now) }
 {
     let (pairs, rest) = text.as_chunks::<2>();
     if !rest.is_empty() {

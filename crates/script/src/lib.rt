@@ -1,4 +1,4 @@
-// Scripts of calls: a line read, an answer shown, the calls of lines run, and a whole script with its answers.
+//! Scripts of calls: a line read, an answer shown, lines run on a plan, and a whole script with its answers.
 #![tactic(auto)]
 
 mod bytes;

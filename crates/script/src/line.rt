@@ -1,18 +1,19 @@
-// What a line of a script says.
+//! What a line of a script says.
 use replay::calls::Call;
 
+/// What a line says.
 #[derive(Drop)]
 pub enum Line {
-    // empty, or a remark
+    /// Empty, or a remark.
     Blank,
-    // no line of the language
+    /// No line of the language.
     Unread,
-    // three bytes of a line, which are made into a mesh at once; a type of them would stand between the two for nothing
+    /// A mesh by its columns, rows and hop delay.
     Mesh { x: u8, y: u8, delay: u8 },
-    // the file bytes of a listed fabric
+    /// A listed fabric by its file bytes.
     Listed(Vec<u8>),
-    // a job part
+    /// A load by its job part.
     Load(Vec<u8>),
-    // any other call
-    Plain(Call<'static>),
+    /// Any other call; it lends no bytes.
+    Plain(Call<&'static [u8]>),
 }

@@ -1,17 +1,18 @@
-// What a line of a script is answered.
+//! What a line of a script is answered.
 use refusals::refusal::{Refusal, Told};
 use replay::calls::Answer;
 
+/// What a line is answered.
 #[derive(Drop)]
 pub enum Reply {
-    // no line of the language
+    /// No line of the language.
     Unread,
-    // a fabric with so many nodes and link numbers, and a new plan over it; a type of both would stand here alone
+    /// A fabric with so many nodes and link numbers, and a new plan over it.
     Ready { nodes: usize, links: usize },
-    // a refused mesh
+    /// A refused mesh.
     Refused(Refusal),
-    // a refused listed fabric
+    /// A refused listed fabric.
     Told(Told),
-    // of a call
+    /// What a call answers.
     Answer(Answer<Vec<u8>>),
 }

@@ -1,8 +1,10 @@
-// Showing a reply as text.
+//! Showing a reply as text.
 ghost use Rattle.replay.specs.Calls.{giving};
 ghost use Rattle.script.specs.Lines.{hex};
 ghost use Rattle.script.specs.Replies.{ToldAsVerdicts, answer_text, reply_text};
-ghost use Rattle.std.specs.Prelude.{◌≡◌, ◌++◌, codes, vec_items, Some, IfOk, MatchResult};
+ghost use Rattle.script.specs.Transcripts.{answered, line_printed};
+ghost use Rattle.std.specs.Option.{option_map};
+ghost use Rattle.std.specs.Prelude.{◌≡◌, ◌++◌, vec_items, Some, IfOk, OnErr, OnOk};
 
 use crate::reply::Reply;
 use refusals::refusal::{Refusal, Told};
@@ -19,7 +21,6 @@ struct Hex<'a> {
 impl fmt::Display for Hex<'_> {
     ghost output = { λ h. Some (hex h.bytes.now) };
 
-    // a loop, since what is written goes to the formatter piece by piece
     fn fmt<W: fmt::Write>(&self, f: &mut fmt::Formatter<W>) -> fmt::Result {
         for byte in self.bytes {
             write!(f, "{:X}{:X}", byte / 16, byte % 16)?;
@@ -76,21 +77,22 @@ impl fmt::Display for Reply {
     }
 }
 
-// The text of a reply.
+/// The text of a reply.
 pub fn show(heap: Global, reply: &Reply) -> Result<Vec<u8>, AllocError>
     ensures { IfOk result (λ v. v.items ≡ reply_text reply.now) }
 {
     Ok(format!(in heap; "{reply}")?.into_bytes())
 }
 
-// Adds a line of text with its reply, or nothing where there is no memory for it.
+/// Adds a line of text with its reply, or nothing where there is no memory for it.
 pub fn tell_line(
     heap: Global,
     out: &mut Vec<u8>,
     text: &[u8],
     reply: &Reply,
 ) -> Result<(), AllocError>
-    ensures { MatchResult result (λ _. out.new.items ≡ out.old.items ++ (text.now ++ (codes ": " ++ (reply_text reply.now ++ codes "\n")))) (λ _. out.new.items ≡ out.old.items) }
+    ensures added { OnOk result (out.new.items ≡ out.old.items ++ answered text.now (reply_text reply.now)) }
+    ensures failed { OnErr result (out.new.items ≡ out.old.items) }
 {
     let mut line = text.to_vec(heap)?;
     line.extend_from_slice(b": ")?;
@@ -99,7 +101,22 @@ pub fn tell_line(
     out.extend_from_slice(&line)
 }
 
-// A refused load or listed fabric is shown as a verdict line tells it.
+// Adds a line with its reply, if it has one.
+pub(crate) fn tell(
+    heap: Global,
+    out: &mut Vec<u8>,
+    text: &[u8],
+    reply: Option<Reply>,
+) -> Result<(), AllocError>
+    ensures { OnOk result (out.new.items ≡ out.old.items ++ line_printed text.now (option_map reply_text reply)) }
+{
+    match reply {
+        Some(reply) => tell_line(heap, out, text, &reply),
+        None => Ok(()),
+    }
+}
+
+/// A refused load or listed fabric is shown as a verdict line tells it.
 pub fn told_stands()
     ensures verdicts { ToldAsVerdicts }
 {}

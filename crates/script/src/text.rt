@@ -1,4 +1,4 @@
-// The parts of a line: its first words, and numbers between single spaces.
+//! The parts of a line: its first words, and numbers between single spaces.
 ghost use Rattle.script.specs.Fields.{after, field, number};
 ghost use Rattle.std.specs.Option.{option_map};
 ghost use Rattle.std.specs.Prelude.{◌≡◌, ℕ, ◌==◌, ◌≤◌, position, Some, None, MatchOption};

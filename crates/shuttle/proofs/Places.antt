@@ -1,5 +1,5 @@
 -- The link at each place of a route of the shuttle.
-use Rattle.std.proofs.Common.{◌≡◌, ℕ, ◌+◌, ◌<◌, ◌≤◌, Bool, true, false, ltb, ◌⊎◌, List, [], ◌∷◌, length, Some, None, refl, sym, ap, ◌∙◌, inl, inr, arith}
+use Rattle.std.proofs.Common.{◌≡◌, ℕ, ◌+◌, ◌<◌, ◌≤◌, Bool, true, false, ltb, List, [], ◌∷◌, length, Some, None, refl, sym, ap, ◌∙◌, inl, inr, arith}
 use Rattle.std.specs.Bool.{then_some}
 use Rattle.std.specs.List.{range_with_len}
 use Rattle.std.proofs.lemmas.Bool.{ltb-true, ltb-false}
@@ -7,11 +7,11 @@ use Rattle.std.proofs.lemmas.List.FromFn.{length-range_with_len, get_or-range_wi
 use Rattle.std.proofs.lemmas.Option.{slice_get-get_or, slice_get_past}
 use Rattle.fabric.specs.Network.{route_length, route_place}
 use Rattle.fabric.proofs.Laws.{length_route}
-use Rattle.shuttle.specs.Laws.{Goes, Stays, routes}
+use Rattle.shuttle.specs.Laws.{Route, routes}
 use Rattle.shuttle.specs.Shuttle.{shuttle_route}
 
 -- a route is the links from 0 up to its length
-counted : (a b : ℕ) (r : List ℕ) → Stays a b r ⊎ (Goes a b r 1 (0 ∷ []) ⊎ Goes a b r 2 (range_with_len 0 64)) → (n : ℕ) → length r ≡ n → r ≡ range_with_len 0 n
+counted : (a b : ℕ) (r : List ℕ) → Route a b r → (n : ℕ) → length r ≡ n → r ≡ range_with_len 0 n
 counted a b r (inl s) n e = sym s.none ∙ ap (range_with_len 0) (ap length s.none ∙ e)
 counted a b r (inr (inl s)) n e = sym s.links ∙ ap (range_with_len 0) (ap length s.links ∙ e)
 counted a b r (inr (inr s)) n e = sym s.links ∙ ap (range_with_len 0) (ap length s.links ∙ e)

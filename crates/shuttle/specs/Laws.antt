@@ -1,4 +1,4 @@
--- Working. The proof that the shuttle keeps the laws of a fabric, `shuttle_lawful`: its own `lawful` cites it.
+-- Working. The proof that the shuttle keeps the laws of a fabric.
 use Rattle.std.specs.Prelude.{◌≡◌, ℕ, zero, suc, ◌+◌, ◌%◌, ◌<◌, ◌≤◌, Bool, true, false, cond, ◌&&◌, ◌⊎◌, List, [], ◌∷◌, length, Some, None, ◌==◌, ◌≢◌, nat_lt, refl}
 use Rattle.std.proofs.Common.{sym, ap, subst, ◌∙◌, inl, inr, arith, lit≤}
 use Rattle.std.specs.List.{range_with_len}
@@ -26,14 +26,17 @@ pub record Goes (a b : ℕ) (r : List ℕ) (to : ℕ) (ls : List ℕ) : Type 0 w
   pub links : ls ≡ r
 
 -- the three kinds of routes
-pub routes : (a b : ℕ) (r : List ℕ) → shuttle_route a b ≡ Some r → Stays a b r ⊎ (Goes a b r 1 (0 ∷ []) ⊎ Goes a b r 2 (range_with_len 0 64))
+abbrev pub Route : (a b : ℕ) → List ℕ → Type 0
+Route a b r = Stays a b r ⊎ (Goes a b r 1 (0 ∷ []) ⊎ Goes a b r 2 (range_with_len 0 64))
+
+pub routes : (a b : ℕ) (r : List ℕ) → shuttle_route a b ≡ Some r → Route a b r
 routes a b r e = go (chosen (a == b && nat_lt a 3) (a == 0 && b == 1) (a == 0 && b == 2) [] (0 ∷ []) (range_with_len 0 64) r e)
   where
     parts : (to : ℕ) (ls : List ℕ) → (a == 0 && b == to) ≡ true → ls ≡ r → Goes a b r to ls
     parts to ls t s = let p = and_parts (a == 0) (b == to) t in record { start = eqb-true a 0 p.0; end = eqb-true b to p.1; links = s }
 
     go : (((a == b && nat_lt a 3) ≡ true) × ([] ≡ r)) ⊎ ((((a == 0 && b == 1) ≡ true) × ((0 ∷ []) ≡ r)) ⊎ (((a == 0 && b == 2) ≡ true) × (range_with_len 0 64 ≡ r)))
-        → Stays a b r ⊎ (Goes a b r 1 (0 ∷ []) ⊎ Goes a b r 2 (range_with_len 0 64))
+        → Route a b r
     go (inl (t, s)) = let p = and_parts (a == b) (nat_lt a 3) t in inl (record { same = eqb-true a b p.0; few = ltb-true a 3 p.1; none = s })
     go (inr (inl (t, s))) = inr (inl (parts 1 (0 ∷ []) t s))
     go (inr (inr (t, s))) = inr (inr (parts 2 (range_with_len 0 64) t s))
@@ -56,7 +59,7 @@ climb zero k e = let is : 63 ≡ k = omega arith in subst (λ j. Chain shuttle_l
 climb (suc n) k e = ((k + 1) % 2, link_at k (omega arith), climb n (k + 1) (omega arith))
 
 -- a route's links lead from its source to its destination
-chain : (a b : ℕ) (r : List ℕ) → Stays a b r ⊎ (Goes a b r 1 (0 ∷ []) ⊎ Goes a b r 2 (range_with_len 0 64)) → Chain shuttle_link a r b
+chain : (a b : ℕ) (r : List ℕ) → Route a b r → Chain shuttle_link a r b
 chain a b r (inl s) = subst (λ ls. Chain shuttle_link a ls b) s.none s.same
 chain a b r (inr (inl s)) =
     subst (λ ls. Chain shuttle_link a ls b) s.links
@@ -73,17 +76,17 @@ counted_once n i j lt in_range same =
     let q = get_or-range_with_len 0 n j 0 (omega arith) in
     omega arith
 
-once : (a b : ℕ) (r : List ℕ) → Stays a b r ⊎ (Goes a b r 1 (0 ∷ []) ⊎ Goes a b r 2 (range_with_len 0 64)) → Once r
+once : (a b : ℕ) (r : List ℕ) → Route a b r → Once r
 once a b r (inl s) = subst Once s.none (counted_once 0)
 once a b r (inr (inl s)) = subst Once s.links (counted_once 1)
 once a b r (inr (inr s)) = subst Once s.links (counted_once 64)
 
-short : (a b : ℕ) (r : List ℕ) → Stays a b r ⊎ (Goes a b r 1 (0 ∷ []) ⊎ Goes a b r 2 (range_with_len 0 64)) → length r ≤ 64
+short : (a b : ℕ) (r : List ℕ) → Route a b r → length r ≤ 64
 short a b r (inl s) = subst (λ ls. length ls ≤ 64) s.none (lit≤ tt)
 short a b r (inr (inl s)) = subst (λ ls. length ls ≤ 64) s.links (lit≤ tt)
 short a b r (inr (inr s)) = subst (λ ls. length ls ≤ 64) s.links (lit≤ tt)
 
-inside : (a b : ℕ) (r : List ℕ) → Stays a b r ⊎ (Goes a b r 1 (0 ∷ []) ⊎ Goes a b r 2 (range_with_len 0 64)) → (a < 3) × (b < 3)
+inside : (a b : ℕ) (r : List ℕ) → Route a b r → (a < 3) × (b < 3)
 inside a b r (inl s) = let p = s.same in let q = s.few in (q, omega arith)
 inside a b r (inr (inl s)) = let p = s.start in let q = s.end in (omega arith, omega arith)
 inside a b r (inr (inr s)) = let p = s.start in let q = s.end in (omega arith, omega arith)

@@ -1,0 +1,20 @@
+use Rattle.std.proofs.Common.{◌<◌, length, ap, sym, ◌∙◌, vec_items, arith}
+use Rattle.std.specs.Option.{option_map}
+use Rattle.script.specs.Replies.{reply_text}
+use Rattle.script.specs.Running.{next_session, session}
+use Rattle.script.proofs.Printed.{line_more, none_of}
+use Rattle.script.proofs.running.run_lines.Goals as goal
+
+pub returns-in-Some-clause-told : goal.returns-in-Some-clause-told
+returns-in-Some-clause-told g c =
+    let here : c.loop-at.at < length c.args.lines.now = omega arith in
+    line_more c.args.lines.now c.args.texts.now c.loop-at.at c.requires.read (session c.loop-at.plan) (vec_items c.loop-at.out) _ c.loop-at.invariant
+    c.index-lines-at.result _ _ (vec_items c.tell.new.out) (option_map reply_text c.in_ok-reply.reply) here c.index-lines-at.is c.in_ok-reply.ensures.reply
+    (ap (next_session (session c.reply_of.new.plan)) (sym c.in-Some.is) ∙ c.in_ok-reply.ensures.left) c.in_ok-tell.ensures
+
+pub loop-at-preserved : goal.loop-at-preserved
+loop-at-preserved g c =
+    let here : c.loop-at.at < length c.args.lines.now = omega arith in
+    line_more c.args.lines.now c.args.texts.now c.loop-at.at c.requires.read (session c.loop-at.plan) (vec_items c.loop-at.out) _ c.loop-at.invariant
+    c.index-lines-at.result _ (session c.reply_of.new.plan) (vec_items c.tell.new.out) (option_map reply_text c.in_ok-reply.reply) here c.index-lines-at.is c.in_ok-reply.ensures.reply
+    (ap (next_session (session c.reply_of.new.plan)) (none_of c.in_ok-reply.made c.in_default.not-Some) ∙ c.in_ok-reply.ensures.left) c.in_ok-tell.ensures
