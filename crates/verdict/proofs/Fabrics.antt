@@ -1,4 +1,4 @@
--- The parts of a plan file: its network keeps the laws. Assumes nothing.
+-- The parts of a plan file: its network keeps the laws.
 use Rattle.std.proofs.Common.{◌≡◌, ℕ, ◌≤◌, ◌&&◌, List, Ok, Err, Result, refl, ap, subst, lit≤}
 use Rattle.std.proofs.lemmas.Bool.{and_parts, leb-true}
 use Rattle.std.specs.Prelude.{nat_le}
@@ -9,7 +9,7 @@ use Rattle.records.specs.declared.head.Head.{Head as FileHead}
 use Rattle.records.specs.declared.head.HeadFault.{HeadFault}
 use Rattle.fabric.specs.Grid.{grid, grid_made, sizes_fit}
 use Rattle.fabric.specs.MeshLaws.{mesh_lawful}
-use Rattle.fabric.specs.Network.{Lawful, Network}
+use Rattle.fabric.specs.Network.{IsFabric, Lawful, Network, is_fabric}
 use Rattle.listed.specs.Description.{network, description_read}
 use Rattle.refusals.proofs.Steps.{step_read}
 use Rattle.listed.proofs.Networks.{set_lawful}
@@ -35,32 +35,26 @@ made_lawful w h d net made =
     subst (Lawful 14) same
     (mesh_lawful w h d (leb-true _ _ wide.0) (leb-true _ _ wide.1) (leb-true _ _ high.0) (leb-true _ _ high.1) (leb-true _ _ q.1))
 
--- a network that keeps the laws, for routes of some length
-abbrev Lawfully : Network → Type 0
-Lawfully net = (longest : ℕ) × (longest ≤ 64) × Lawful longest net
-
 module _ (file : List ℕ) (net : Network) (part : List ℕ) where
-  mesh_laws : (o : Result Network ℕ) (rest : List ℕ) → ((made : Network) → o ≡ Ok made → Lawful 14 made) → mesh_part o rest ≡ Ok (net, part) → Lawfully net
+  mesh_laws : (o : Result Network ℕ) (rest : List ℕ) → ((made : Network) → o ≡ Ok made → Lawful 14 made) → mesh_part o rest ≡ Ok (net, part) → IsFabric net
   mesh_laws (Err n) rest laws is = cc
   mesh_laws (Ok made) rest laws is =
       let (bytes, _, last) = step_read (mesh_sections rest) (λ x. Ok (made, x)) (net, part) is in
-      (14, lit≤ tt, subst (Lawful 14) (first_same made net bytes part last) (laws made refl))
+      is_fabric (lit≤ tt) (subst (Lawful 14) (first_same made net bytes part last) (laws made refl))
 
-  listed_laws : listed_part file ≡ Ok (net, part) → Lawfully net
+  listed_laws : listed_part file ≡ Ok (net, part) → IsFabric net
   listed_laws is =
       let (p, read, last) = step_read (description_read file) (λ p. Ok (network p.0, p.1)) (net, part) is in
-      (12, lit≤ tt, subst (Lawful 12) (first_same (network p.0) net p.1 part last) (set_lawful file p read))
+      is_fabric (lit≤ tt) (subst (Lawful 12) (first_same (network p.0) net p.1 part last) (set_lawful file p read))
 
-  kind_laws : (kind : FabricKind) (p : FileHead × List ℕ) → kind_part kind file p ≡ Ok (net, part) → Lawfully net
+  kind_laws : (kind : FabricKind) (p : FileHead × List ℕ) → kind_part kind file p ≡ Ok (net, part) → IsFabric net
   kind_laws MeshKind p is = mesh_laws (grid_made p.0.x p.0.y p.0.delay) p.1 (made_lawful p.0.x p.0.y p.0.delay) is
   kind_laws ListedKind p is = listed_laws is
 
-  head_laws : (o : Result (FileHead × List ℕ) HeadFault) → head_part file o ≡ Ok (net, part) → Lawfully net
+  head_laws : (o : Result (FileHead × List ℕ) HeadFault) → head_part file o ≡ Ok (net, part) → IsFabric net
   head_laws (Err e) is = cc
   head_laws (Ok p) is = kind_laws p.0.kind p is
 
   -- what a file's parts are read as is a lawful network
   pub part_fabric : file_part file ≡ Ok (net, part) → FileFabric file net part
-  part_fabric is =
-      let (longest, bounded, lawful) = head_laws (head_read file) is in
-      record { read = is; longest = longest; bounded = bounded; lawful = lawful }
+  part_fabric is = record { read = is; lawful = head_laws (head_read file) is }

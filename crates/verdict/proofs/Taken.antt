@@ -1,69 +1,32 @@
--- A load that takes all jobs holds the jobs of the records, all of them and no other. Assumes nothing.
-use Rattle.std.proofs.Common.{◌≡◌, ℕ, ◌+◌, ◌⊎◌, ◌↔◌, List, [], ◌∷◌, length, None, Some, Ok, Err, Option, Result, sym, refl, subst, inl, inr, ⊎_elim, arith}
-use Rattle.records.specs.Named.{add}
+-- A load into a new plan that takes all jobs holds the jobs of the records, all of them and no other, each once.
+use Rattle.std.proofs.Common.{◌≡◌, ℕ, ◌+◌, ◌↔◌, List, [], ◌∷◌, length, map, Ok, Err, Result, sym, refl, subst, inl, ⊎_elim, arith}
 use Rattle.records.proofs.Places.{length_add}
 use Rattle.records.specs.declared.record.Task.{Task}
 use Rattle.records.specs.declared.record.Message.{Message}
 use Rattle.refusals.specs.declared.refusal.Counts.{Counts}
-use Rattle.jobs.specs.declared.fault.TaskFault.{TaskFault}
-use Rattle.jobs.specs.declared.fault.MessageFault.{MessageFault}
-use Rattle.jobs.specs.Jobs.{Jobs, Setting, message_name, nothing, task_name, with_message, with_task}
-use Rattle.jobs.specs.Rules.{message_refusal, task_refusal}
-use Rattle.plan.specs.Loading.{in_turn, job_part, load, load_messages, load_tasks, loaded, on_taken, past_messages, past_tasks}
+use Rattle.jobs.specs.Jobs.{Jobs, Setting, message_name, nothing, task_name}
+use Rattle.jobs.specs.Offered.{joined}
+use Rattle.jobs.specs.declared.job.Job.TheVariants as job
+use Rattle.jobs.specs.declared.job.JobFault.{JobFault}
+use Rattle.jobs.specs.Jobs.{In}
+use Rattle.promise.proofs.Lists.{append_in, in_left, in_map, in_nil, in_right, map_in}
+use Rattle.plan.specs.Loading.{counted, file_order, in_turn, job_part, load, loaded}
+use Rattle.plan.specs.Loads.{all_joined}
 use Rattle.plan.specs.declared.fault.LayoutFault.{LayoutFault}
-use Rattle.promise.specs.Clean.{In}
-use Rattle.plan.proofs.Loads.{turn_keeps}
-use Rattle.promise.proofs.Lists.{add_new, add_old, in_add, in_cases, in_here, in_nil, in_there}
+use Rattle.plan.proofs.Tries.{members_joined, turn_joined}
 
--- ---- offers in turn
+-- ---- how many are held
 
--- a list with the jobs xs more, each once
-record Joined {X : Type 0} (before xs after : List X) : Type 0 where
-  pub members : (y : X) → In y after ↔ (In y before ⊎ In y xs)
-  pub many : length after ≡ length before + length xs
+-- so many more are held, of each kind
+joined_tasks : (js : Jobs) (ts : List Task) (ms : List Message) → length (all_joined js (file_order (ts, ms))).tasks ≡ length js.tasks + length ts
+joined_tasks js [] [] = omega arith
+joined_tasks js [] (m ∷ ms) = joined_tasks (joined js (job.Message m)) [] ms
+joined_tasks js (t ∷ ts) ms = omega (arith, joined_tasks (joined js (job.Task t)) ts ms, length_add task_name t js.tasks)
 
-none_joined : {X : Type 0} (before : List X) → Joined before [] before
-none_joined before =
-    record {
-      members = λ y. (λ i. inl i, ⊎_elim (λ i. i) (λ i. absurd (in_nil y i)));
-      many = omega arith;
-    }
-
--- one more, and then the others
-more_joined : {X : Type 0} (name : X → ℕ) (x : X) (before xs after : List X) → Joined (add name x before) xs after → Joined before (x ∷ xs) after
-more_joined {X} name x before xs after j =
-    record {
-      members = λ y. (
-        λ i. ⊎_elim
-            (λ a. ⊎_elim (λ e. inr (in_here x y xs e)) (λ b. inl b) (in_add name x y before a))
-            (λ b. inr (in_there x y xs b))
-            ((j.members y).0 i),
-        λ s. (j.members y).1 (⊎_elim
-            (λ a. inl (add_old name x y before a))
-            (λ b. ⊎_elim (λ e. inl (subst (λ z. In z (add name x before)) (sym e) (add_new name x before))) (λ c. inr c) (in_cases x y xs b))
-            s),
-      );
-      many = omega (arith, length_add name x before, j.many);
-    }
-
-module _ {X E : Type 0} (refusal : Jobs → X → Option E) (held : Jobs → X → Jobs) (list : Jobs → List X) (name : X → ℕ)
-    (adds : (js : Jobs) (x : X) → list (held js x) ≡ add name x (list js)) where
-  -- where all were taken, all are held
-  joined : (js : Jobs) (k : ℕ) (xs : List X) → (in_turn refusal held js k xs).0 ≡ Ok tt → Joined (list js) xs (list (in_turn refusal held js k xs).1)
-  joined js k [] e = none_joined (list js)
-  joined js k (x ∷ xs) e = go (refusal js x) e (joined (held js x) (k + 1) xs)
-    where
-      go : (o : Option E) → (on_taken k o js (in_turn refusal held (held js x) (k + 1) xs)).0 ≡ Ok tt
-          → ((in_turn refusal held (held js x) (k + 1) xs).0 ≡ Ok tt → Joined (list (held js x)) xs (list (in_turn refusal held (held js x) (k + 1) xs).1))
-          → Joined (list js) (x ∷ xs) (list (on_taken k o js (in_turn refusal held (held js x) (k + 1) xs)).1)
-      go None is next =
-          let after = list (in_turn refusal held (held js x) (k + 1) xs).1 in
-          more_joined name x (list js) xs after (subst (λ l. Joined l xs after) (adds js x) (next is))
-      go (Some f) is next = cc
-
--- jobs joined to none are all that is there
-all_joined : {X : Type 0} (xs after : List X) → Joined [] xs after → (y : X) → In y after ↔ In y xs
-all_joined xs after j y = (λ i. ⊎_elim (λ n. absurd (in_nil y n)) (λ b. b) ((j.members y).0 i), λ i. (j.members y).1 (inr i))
+joined_messages : (js : Jobs) (ts : List Task) (ms : List Message) → length (all_joined js (file_order (ts, ms))).messages ≡ length js.messages + length ms
+joined_messages js [] [] = omega arith
+joined_messages js [] (m ∷ ms) = omega (arith, joined_messages (joined js (job.Message m)) [] ms, length_add message_name m js.messages)
+joined_messages js (t ∷ ts) ms = joined_messages (joined js (job.Task t)) ts ms
 
 -- ---- a load
 
@@ -77,38 +40,58 @@ pub record Taken (part : List ℕ) (n : Counts) (after : Jobs) : Type 0 where
   pub each_once : (length after.tasks ≡ length tasks) × (length after.messages ≡ length messages)
   pub counts : n ≡ record { tasks = length tasks; messages = length messages }
 
+module _ (ts : List Task) (ms : List Message) where
+  -- the records of a part are its tasks and its messages
+  task_record : (t : Task) → In (job.Task t) (file_order (ts, ms)) ↔ In t ts
+  task_record t = (
+    λ i. ⊎_elim (λ a. let k = map_in job.Task (job.Task t) ts a in let same : k.0 ≡ t = cc in subst (λ u. In u ts) same k.1)
+        (λ b. let k = map_in job.Message (job.Task t) ms b in let e = k.2 in absurd cc)
+        (append_in (job.Task t) (map job.Task ts) (map job.Message ms) i),
+    λ i. in_left (job.Task t) (map job.Task ts) (map job.Message ms) (in_map job.Task t ts i),
+  )
+
+  message_record : (m : Message) → In (job.Message m) (file_order (ts, ms)) ↔ In m ms
+  message_record m = (
+    λ i. ⊎_elim (λ a. let k = map_in job.Task (job.Message m) ts a in let e = k.2 in absurd cc)
+        (λ b. let k = map_in job.Message (job.Message m) ms b in let same : k.0 ≡ m = cc in subst (λ u. In u ms) same k.1)
+        (append_in (job.Message m) (map job.Task ts) (map job.Message ms) i),
+    λ i. in_right (job.Message m) (map job.Task ts) (map job.Message ms) (in_map job.Message m ms i),
+  )
+
+  -- joined to nothing, they are all that is held
+  task_held : (t : Task) → In t (all_joined nothing (file_order (ts, ms))).tasks ↔ In t ts
+  task_held t =
+      let r = members_joined nothing (file_order (ts, ms)) (job.Task t) in (
+        λ i. (task_record t).0 (⊎_elim (λ k. k) (λ n. absurd (in_nil t n)) (r.0 i)),
+        λ i. r.1 (inl ((task_record t).1 i)),
+      )
+
+  message_held : (m : Message) → In m (all_joined nothing (file_order (ts, ms))).messages ↔ In m ms
+  message_held m =
+      let r = members_joined nothing (file_order (ts, ms)) (job.Message m) in (
+        λ i. (message_record m).0 (⊎_elim (λ k. k) (λ n. absurd (in_nil m n)) (r.0 i)),
+        λ i. r.1 (inl ((message_record m).1 i)),
+      )
+
 module _ (g : Setting) (part : List ℕ) (n : Counts) where
   pub load_taken : (load g nothing part).0 ≡ Ok n → Taken part n (load g nothing part).1
   load_taken is = go (job_part part) refl is
     where
-      messages : (ts : List Task) (ms : List Message) → job_part part ≡ Ok (ts, ms) → (load_tasks g nothing 0 ts).0 ≡ Ok tt
-          → (r : Result (Unit {0}) (ℕ × MessageFault)) → (load_messages g (load_tasks g nothing 0 ts).1 0 ms).0 ≡ r → past_messages (length ts) (length ms) r ≡ Ok n
-          → Taken part n (load_messages g (load_tasks g nothing 0 ts).1 0 ms).1
-      messages ts ms read tasks (Err q) m e = cc
-      messages ts ms read tasks (Ok u) m e =
-          let js = (load_tasks g nothing 0 ts).1 in
-          let after = (load_messages g js 0 ms).1 in
-          let a = joined (task_refusal g.network.nodes) with_task (λ j. j.tasks) task_name (λ j t. refl) nothing 0 ts tasks in
-          let b = joined (message_refusal g) with_message (λ j. j.messages) message_name (λ j x. refl) js 0 ms m in
-          let none : js.messages ≡ [] = turn_keeps (λ j. j.messages ≡ []) (task_refusal g.network.nodes) with_task (λ j t p e. p) nothing 0 ts refl in
-          let stay : after.tasks ≡ js.tasks = turn_keeps (λ j. j.tasks ≡ js.tasks) (message_refusal g) with_message (λ j x p e. p) js 0 ms refl in
-          let c : Joined [] ts after.tasks = subst (λ l. Joined [] ts l) (sym stay) a in
-          let d : Joined [] ms after.messages = subst (λ l. Joined l ms after.messages) none b in
-          record {
-            tasks = ts;
-            messages = ms;
+      records : (p : List Task × List Message) → job_part part ≡ Ok p → (r : Result (Unit {0}) (ℕ × JobFault)) → (in_turn g nothing 0 (file_order p)).0 ≡ r
+          → counted p r ≡ Ok n → Taken part n (in_turn g nothing 0 (file_order p)).1
+      records p read (Err q) t e = cc
+      records p read (Ok u) t e =
+          subst (Taken part n) (sym (turn_joined g nothing 0 (file_order p) t))
+          (record {
+            tasks = p.0;
+            messages = p.1;
             records = read;
-            all_tasks = all_joined ts after.tasks c;
-            all_messages = all_joined ms after.messages d;
-            each_once = (omega (arith, c.many), omega (arith, d.many));
+            all_tasks = task_held p.0 p.1;
+            all_messages = message_held p.0 p.1;
+            each_once = (omega (arith, joined_tasks nothing p.0 p.1), omega (arith, joined_messages nothing p.0 p.1));
             counts = cc;
-          }
-
-      tasks : (ts : List Task) (ms : List Message) → job_part part ≡ Ok (ts, ms) → (r : Result (Unit {0}) (ℕ × TaskFault)) → (load_tasks g nothing 0 ts).0 ≡ r
-          → (past_tasks g ts ms r (load_tasks g nothing 0 ts).1).0 ≡ Ok n → Taken part n (past_tasks g ts ms r (load_tasks g nothing 0 ts).1).1
-      tasks ts ms read (Err q) t e = cc
-      tasks ts ms read (Ok u) t e = messages ts ms read t (load_messages g (load_tasks g nothing 0 ts).1 0 ms).0 refl e
+          })
 
       go : (o : Result (List Task × List Message) LayoutFault) → job_part part ≡ o → (loaded g nothing o).0 ≡ Ok n → Taken part n (loaded g nothing o).1
       go (Err e) read i = cc
-      go (Ok p) read i = tasks p.0 p.1 read (load_tasks g nothing 0 p.0).0 refl i
+      go (Ok p) read i = records p read (in_turn g nothing 0 (file_order p)).0 refl i

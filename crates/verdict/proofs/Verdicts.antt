@@ -1,20 +1,19 @@
--- What the verdict on a plan file says of its jobs: from the load of its job part on its network. Assumes nothing.
+-- What the verdict on a plan file says of its jobs: from the load of its job part on its network.
 use Rattle.std.proofs.Common.{◌≡◌, ℕ, Bool, true, false, cond, List, length, Ok, Err, Result, refl, ◌∙◌, subst}
 use Rattle.std.specs.Prelude.{nat_lt}
 use Rattle.refusals.specs.declared.refusal.Counts.{Counts}
 use Rattle.fabric.specs.Network.{Network}
 use Rattle.refusals.specs.Steps.{within}
 use Rattle.listed.specs.declared.faults.SetFault.{SetFault}
-use Rattle.jobs.specs.Jobs.{nothing}
+use Rattle.jobs.specs.Jobs.{created_on, nothing}
 use Rattle.plan.specs.Loading.{load}
 use Rattle.plan.specs.declared.fault.LoadFault.{LoadFault}
 use Rattle.plan.proofs.Loads.{load_keeps}
-use Rattle.replay.proofs.Loads.{load_told}
-use Rattle.replay.proofs.Promises.{new_clean, told}
-use Rattle.replay.specs.Calls.{loading}
-use Rattle.replay.specs.Promise.{LoadTold}
+use Rattle.plan.proofs.Stands.{clean_nothing}
+use Rattle.plan.proofs.Tries.{load_told}
+use Rattle.plan.specs.Loads.{LoadTold}
 use Rattle.verdict.specs.Judged.{FileClean, FileFabric, FileRefused}
-use Rattle.verdict.specs.Verdict.{file_part, judged_on, on, on_part, verdict_of}
+use Rattle.verdict.specs.Verdict.{file_part, judged_on, on_part, verdict_of}
 use Rattle.verdict.specs.declared.fault.FileFault.{FileFault}
 use Rattle.verdict.specs.declared.fault.FileFault.TheVariants.{Extra, Load}
 use Rattle.verdict.proofs.Fabrics.{part_fabric}
@@ -45,7 +44,7 @@ record Loaded (file : List ℕ) (r : Result Counts LoadFault) : Type 0 where
   pub net : Network
   pub part : List ℕ
   pub fabric : FileFabric file net part
-  pub is : (load (on net) nothing part).0 ≡ r
+  pub is : (load (created_on net) nothing part).0 ≡ r
 
 loaded : (file : List ℕ) (r : Result Counts LoadFault) → verdict_of file ≡ within Load r → Loaded file r
 loaded file r e =
@@ -55,14 +54,14 @@ loaded file r e =
       net = p.0;
       part = p.1;
       fabric = part_fabric file p.0 p.1 read;
-      is = within_load (load (on p.0) nothing p.1).0 r is;
+      is = within_load (load (created_on p.0) nothing p.1).0 r is;
     }
 
 -- the jobs of a file whose verdict counts them are clean
 pub file_clean : (file : List ℕ) (n : Counts) → verdict_of file ≡ Ok n → FileClean file n
 file_clean file n e =
     let l = loaded file (Ok n) e in
-    let g = on l.net in
+    let g = created_on l.net in
     let t = load_taken g l.part n l.is in
     record {
       net = l.net;
@@ -75,7 +74,7 @@ file_clean file n e =
       all_tasks = t.all_tasks;
       all_messages = t.all_messages;
       each_once = t.each_once;
-      clean = load_keeps g l.fabric.longest l.fabric.bounded l.fabric.lawful nothing l.part (new_clean g);
+      clean = load_keeps g l.fabric.lawful nothing l.part (clean_nothing g);
       counted = t.counts ∙ (let once = t.each_once in cc);
     }
 
@@ -83,12 +82,10 @@ file_clean file n e =
 pub file_refused : (file : List ℕ) (e : LoadFault) → verdict_of file ≡ Err (Load e) → FileRefused file e
 file_refused file e is =
     let l = loaded file (Err e) is in
-    let g = on l.net in
-    let promised = told g l.fabric.longest l.fabric.bounded l.fabric.lawful nothing (new_clean g) (loading l.part) in
+    let g = created_on l.net in
     record {
       net = l.net;
       part = l.part;
       fabric = l.fabric;
-      told = subst (LoadTold g nothing l.part) l.is (load_told g nothing l.part);
-      exact = promised.3;
+      told = subst (LoadTold g nothing l.part) l.is (load_told g l.fabric.lawful nothing (clean_nothing g) l.part);
     }

@@ -1,4 +1,4 @@
--- What a verdict says of a plan file, in the words of clean plans. Assumes nothing.
+-- Meaning. What a verdict says of a plan file, in the words of clean plans.
 --   FileFabric     the network that a file sets, which keeps the laws of every fabric
 --   FileClean      the jobs of a file that was taken whole are a clean plan on its fabric
 --   FileRefused    a load that was refused, by the offers that it tries
@@ -6,21 +6,19 @@ use Rattle.std.specs.Prelude.{◌≡◌, ℕ, ◌≤◌, ◌↔◌, List, length
 use Rattle.records.specs.declared.record.Task.{Task}
 use Rattle.records.specs.declared.record.Message.{Message}
 use Rattle.refusals.specs.declared.refusal.Counts.{Counts}
-use Rattle.fabric.specs.Network.{Lawful, Network}
-use Rattle.jobs.specs.Jobs.{Jobs, nothing}
+use Rattle.fabric.specs.Network.{IsFabric, Network}
+use Rattle.jobs.specs.Jobs.{In, Jobs, created_on, nothing}
 use Rattle.plan.specs.Held.{counts_of}
 use Rattle.plan.specs.Loading.{job_part}
 use Rattle.plan.specs.declared.fault.LoadFault.{LoadFault}
-use Rattle.promise.specs.Clean.{Clean, In}
-use Rattle.replay.specs.Promise.{Exact, LoadTold, Try, load_tries}
-use Rattle.verdict.specs.Verdict.{file_part, on}
+use Rattle.promise.specs.Clean.{Clean}
+use Rattle.plan.specs.Loads.{LoadTold}
+use Rattle.verdict.specs.Verdict.{file_part}
 
 -- the network and the job part are the file's, and the network keeps the laws, with routes of at most 64 links
 pub record FileFabric (file : List ℕ) (net : Network) (part : List ℕ) : Type 0 where
   pub read : file_part file ≡ Ok (net, part)
-  pub longest : ℕ
-  pub bounded : longest ≤ 64
-  pub lawful : Lawful longest net
+  pub lawful : IsFabric net
 
 -- ---- verdicts
 
@@ -36,7 +34,7 @@ pub record FileClean (file : List ℕ) (n : Counts) : Type 0 where
   pub all_tasks : (t : Task) → In t held.tasks ↔ In t tasks
   pub all_messages : (m : Message) → In m held.messages ↔ In m messages
   pub each_once : (length held.tasks ≡ length tasks) × (length held.messages ≡ length messages)
-  pub clean : Clean (on net) held
+  pub clean : Clean (created_on net) held
   pub counted : n ≡ counts_of held
 
 -- the job part is loaded into a new plan on the file's fabric: it has the layout fault e, or the offer of the record that e names,
@@ -46,5 +44,4 @@ pub record FileRefused (file : List ℕ) (e : LoadFault) : Type 0 where
   pub net : Network
   pub part : List ℕ
   pub fabric : FileFabric file net part
-  pub told : LoadTold (on net) nothing part (Err e)
-  pub exact : (y : Try) → In y (load_tries (on net) nothing part) → Exact (on net) y
+  pub told : LoadTold (created_on net) nothing part (Err e)

@@ -12,7 +12,7 @@ use Rattle.refusals.specs.Steps.{◌>>=◌, within}
 use Rattle.listed.specs.Description.{description_read, network, section_read}
 use Rattle.listed.specs.declared.faults.SetFault.{SetFault}
 use Rattle.listed.specs.declared.faults.SetFault.TheVariants.{Head, Links, Routes}
-use Rattle.jobs.specs.Jobs.{Setting, nothing}
+use Rattle.jobs.specs.Jobs.{nothing, created_on}
 use Rattle.plan.specs.Loading.{load}
 use Rattle.refusals.specs.declared.refusal.Counts.{Counts}
 use Rattle.verdict.specs.declared.fault.FileFault.{FileFault}
@@ -54,13 +54,9 @@ file_part file = head_part file (head_read file)
 
 -- ---- the verdict
 
--- what a plan over a network is created with
-abbrev pub on : Network → Setting
-on net = record { network = net }
-
 -- a job part is loaded into a new plan over a network
 abbrev pub judged_on : Network → List ℕ → Result Counts FileFault
-judged_on net part = within Load (load (on net) nothing part).0
+judged_on net part = within Load (load (created_on net) nothing part).0
 
 -- the job part on its network, or what is wrong before it
 abbrev pub on_part : Result (Network × List ℕ) SetFault → Result Counts FileFault

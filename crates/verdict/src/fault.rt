@@ -1,4 +1,4 @@
-// Why a plan file is refused: the fault of the part, carried whole.
+//! Why a plan file is refused: the fault of the part, carried whole.
 ghost use Rattle.verdict.specs.Told.{file_told};
 ghost use Rattle.verdict.specs.declared.fault.FileFault.TheVariants.{Fabric, Load};
 ghost use Rattle.std.specs.Prelude.{◌≡◌};
@@ -6,14 +6,19 @@ ghost use Rattle.std.specs.Prelude.{◌≡◌};
 use listed::SetFault;
 use plan::fault::LoadFault;
 use refusals::refusal::{Part, Refusal, Told};
+use thiserror::Error;
 
-#[derive(Clone, Copy)]
+/// What is wrong with a plan file.
+#[derive(Clone, Copy, PartialEq, Eq, Debug, Error)]
 pub(crate) enum FileFault {
-    // over 8,192 bytes
+    /// It has over 8,192 bytes: refusal 25.
+    #[error("longer than a plan file may be")]
     Extra,
-    // the head, the links or the routes
+    /// The head, the links or the routes.
+    #[error("{0:?}")]
     Fabric(SetFault),
-    // the job part
+    /// The job part.
+    #[error("{0}")]
     Load(LoadFault),
 }
 

@@ -1,12 +1,11 @@
-// Judging a plan file: its own fabric and plan are made, its jobs loaded, and the verdict line written.
+//! Judging a plan file: its own fabric and plan are made, its jobs loaded, and the verdict line written.
 ghost use Rattle.plan.specs.declared.fault.LoadFault.{LoadFault};
-ghost use Rattle.refusals.specs.Lines.{line_text, too_short};
-ghost use Rattle.refusals.specs.Told.{buffer_told, plain, refusal_of};
-ghost use Rattle.refusals.specs.Written.{written};
+ghost use Rattle.plan.specs.Follows.{Says};
+ghost use Rattle.refusals.specs.Told.{buffer_told};
 ghost use Rattle.refusals.specs.declared.refusal.Counts.{Counts};
-ghost use Rattle.std.specs.Prelude.{◌≡◌, ◌≤◌, length, IfOk, if◌then◌else◌, Some, None, Ok, Err, MatchResult, nat_lt};
+ghost use Rattle.std.specs.Prelude.{◌≡◌, ◌≤◌, length, IfOk, Ok, Err, MatchResult};
 ghost use Rattle.verdict.specs.Judged.{FileClean, FileRefused};
-ghost use Rattle.verdict.specs.Told.{verdict_line};
+ghost use Rattle.verdict.specs.Told.{line_left, line_length};
 ghost use Rattle.verdict.specs.Verdict.{judged_on, listed_verdict, mesh_sections, mesh_verdict, verdict_of};
 ghost use Rattle.verdict.specs.declared.fault.FileFault.TheVariants.{Load};
 
@@ -20,7 +19,7 @@ use records::record::{Link, Route};
 use refusals::line::write_line;
 use refusals::refusal::{BufferFault, Counts, Told};
 
-// No plan file is longer.
+/// No plan file is longer, in bytes.
 pub const LONGEST_FILE: usize = 8192;
 
 // How many tasks and messages a new plan over the fabric takes from a job part.
@@ -73,14 +72,13 @@ fn judge_file(file: &[u8]) -> Result<Counts, FileFault>
     }
 }
 
-// Writes the verdict line on a plan file to the start of the buffer and answers its length; bytes beyond it stay. A buffer of
-// fewer than 64 bytes is refused and stays. The jobs of a file that is counted are clean for all of time on its fabric; one whose
-// job part is refused is refused as the plan's promise says.
+/// Writes the verdict line on a plan file to the start of the buffer and answers its length; bytes beyond it stay. A buffer of
+/// fewer than 64 bytes is refused with 27 and stays. The jobs of a file that is counted are clean for all of time on its fabric; one
+/// whose job part is refused is refused as the plan's promise says.
 #[tactic(auto, using(crate::proofs::Verdicts::file_clean, crate::proofs::Verdicts::file_refused))]
 pub fn judge(file: &[u8], out: &mut [u8]) -> Result<usize, BufferFault>
-    ensures answer { result ≡ (if nat_lt (length out.old) 64 then Err too_short else Ok (length (line_text (verdict_line (verdict_of file.now))))) }
-    ensures buffer { out.new ≡ (if nat_lt (length out.old) 64 then out.old else written out.old 0 (line_text (verdict_line (verdict_of file.now)))) }
-    ensures told { refusal_of buffer_told result ≡ (if nat_lt (length out.old) 64 then Some (plain 27) else None) }
+    ensures follows { Says result buffer_told (line_length file.now (length out.old)) }
+    ensures buffer { out.new ≡ line_left file.now out.old }
     ensures bound { IfOk result (λ n. n ≤ 64) }
     ensures clean { (n : Counts) → verdict_of file.now ≡ Ok n → FileClean file.now n }
     ensures refused { (e : LoadFault) → verdict_of file.now ≡ Err (Load e) → FileRefused file.now e }

@@ -1,4 +1,4 @@
-// The verdict on a whole plan file, as one line in a caller's buffer.
+//! The verdict on a whole plan file, as one line in a caller's buffer.
 #![tactic(auto)]
 
 mod fault;

@@ -4,13 +4,16 @@ use Rattle.fabric.specs.Grid.{grid}
 use Rattle.jobs.specs.declared.fault.TaskFault.TheVariants as task_fault
 use Rattle.jobs.specs.declared.fault.MessageFault.TheVariants as message_fault
 use Rattle.jobs.specs.declared.fault.PlacingFault.TheVariants as placing
-use Rattle.jobs.specs.Jobs.{Setting, nothing}
+use Rattle.jobs.specs.Jobs.{Setting, created_on, nothing}
+use Rattle.jobs.specs.Places.{core, link}
 use Rattle.plan.specs.declared.fault.LoadFault.TheVariants as load_fault
+use Rattle.jobs.specs.declared.job.JobFault.TheVariants as job_fault
 use Rattle.refusals.specs.Lines.{line_text, too_short}
 use Rattle.verdict.specs.Told.{verdict_line}
 use Rattle.verdict.specs.Verdict.{verdict_of}
 use Rattle.replay.specs.declared.calls.Answer.TheVariants as answer
-use Rattle.replay.specs.Calls.{Ask, Said, answers, asking_slack, loading, offering_message, offering_task, placing_message, placing_task, writing}
+use Rattle.replay.specs.declared.calls.Call.TheVariants as call
+use Rattle.replay.specs.Calls.{Ask, Said, answers}
 
 -- calls on a new plan with their answers in order, the route between two nodes, or a plan file with its verdict line
 pub data Case : Type 0 where
@@ -31,20 +34,20 @@ Give (c ∷ cs) = Gives c × Give cs
 
 -- a mesh of so many columns and rows with a hop delay
 abbrev pub mesh : ℕ → ℕ → ℕ → Setting
-mesh x y delay = record { network = grid x y delay }
+mesh x y delay = created_on (grid x y delay)
 
 -- jobs by name, core or tasks, and times
 abbrev pub task : (name core period phase width : ℕ) → Ask
-task n c p f w = offering_task (record { name = n; core = c; period = p; phase = f; width = w })
+task n c p f w = call.OfferTask (record { name = n; core = c; period = p; phase = f; width = w })
 
 abbrev pub message : (name source destination kind delay width : ℕ) → Ask
-message n s d k delay w = offering_message (record { name = n; source = s; destination = d; kind = k; delay = delay; width = w })
+message n s d k delay w = call.OfferMessage (record { name = n; source = s; destination = d; kind = k; delay = delay; width = w })
 
 abbrev pub open_task : (name core period width : ℕ) → Ask
-open_task n c p w = placing_task (record { name = n; core = c; period = p; width = w })
+open_task n c p w = call.PlaceTask (record { name = n; core = c; period = p; width = w })
 
 abbrev pub open_message : (name source destination kind width : ℕ) → Ask
-open_message n s d k w = placing_message (record { name = n; source = s; destination = d; kind = k; width = w })
+open_message n s d k w = call.PlaceMessage (record { name = n; source = s; destination = d; kind = k; width = w })
 
 -- answers
 abbrev pub task_taken : Said
@@ -54,10 +57,10 @@ abbrev pub message_taken : Said
 message_taken = answer.MessageOffered (Ok tt)
 
 abbrev pub task_meets : (instant held place : ℕ) → Said
-task_meets n h p = answer.TaskOffered (Err (task_fault.Meets (record { instant = n; held = h; place = p })))
+task_meets n h p = answer.TaskOffered (Err (task_fault.Meets (record { instant = n; held = h; place = core p })))
 
 abbrev pub message_meets : (instant held place : ℕ) → Said
-message_meets n h p = answer.MessageOffered (Err (message_fault.Meets (record { instant = n; held = h; place = p })))
+message_meets n h p = answer.MessageOffered (Err (message_fault.Meets (record { instant = n; held = h; place = link p })))
 
 abbrev pub all_loaded : (tasks messages : ℕ) → Said
 all_loaded t m = answer.Loaded (Ok (record { tasks = t; messages = m }))
@@ -98,23 +101,23 @@ worked =
     ∷ routing (mesh 3 3 0) 0 5 (0 ∷ 4 ∷ 10 ∷ [])
     ∷ routing (mesh 3 3 0) 5 0 (21 ∷ 17 ∷ 15 ∷ [])
     -- on one core a message may have no slack, and no delay then
-    ∷ calling (mesh 1 1 0) (task 1 0 20 0 4 ∷ task 2 0 20 4 5 ∷ message 1 1 2 0 0 1 ∷ asking_slack 1 ∷ []) (task_taken ∷ task_taken ∷ message_taken ∷ answer.Slack (Ok (pos 0)) ∷ [])
+    ∷ calling (mesh 1 1 0) (task 1 0 20 0 4 ∷ task 2 0 20 4 5 ∷ message 1 1 2 0 0 1 ∷ call.Slack 1 ∷ []) (task_taken ∷ task_taken ∷ message_taken ∷ answer.Slack (Ok (pos 0)) ∷ [])
     ∷ calling (mesh 1 1 0) (task 1 0 20 0 4 ∷ task 2 0 20 4 5 ∷ message 1 1 2 0 1 1 ∷ []) (task_taken ∷ task_taken ∷ late (negsuc 0) ∷ [])
     -- two nodes: slack 6 with no delay, 0 with delay 6, and late with delay 7
-    ∷ calling (mesh 2 1 3) (loading (two_nodes 0) ∷ asking_slack 1 ∷ []) (all_loaded 2 1 ∷ answer.Slack (Ok (pos 6)) ∷ [])
-    ∷ calling (mesh 2 1 3) (loading (two_nodes 6) ∷ asking_slack 1 ∷ []) (all_loaded 2 1 ∷ answer.Slack (Ok (pos 0)) ∷ [])
-    ∷ calling (mesh 2 1 3) (loading (two_nodes 7) ∷ []) (answer.Loaded (Err (load_fault.Message 0 (message_fault.Late (negsuc 0)))) ∷ [])
+    ∷ calling (mesh 2 1 3) (call.Load (two_nodes 0) ∷ call.Slack 1 ∷ []) (all_loaded 2 1 ∷ answer.Slack (Ok (pos 6)) ∷ [])
+    ∷ calling (mesh 2 1 3) (call.Load (two_nodes 6) ∷ call.Slack 1 ∷ []) (all_loaded 2 1 ∷ answer.Slack (Ok (pos 0)) ∷ [])
+    ∷ calling (mesh 2 1 3) (call.Load (two_nodes 7) ∷ []) (answer.Loaded (Err (load_fault.Offer 0 (job_fault.Message (message_fault.Late (negsuc 0))))) ∷ [])
     -- the whole file of two nodes, and what is printed of it
     ∷ judging (two_nodes_file 0) (codes "CLEAR 2 1\n")
     ∷ judging (two_nodes_file 6) (codes "CLEAR 2 1\n")
     ∷ judging (two_nodes_file 7) (codes "REFUSED 4 0 19 LATE -1\n")
     -- what was loaded is written, where it has the room, and in ascending names whatever the order of the offers
-    ∷ calling (mesh 2 1 3) (loading (two_nodes 0) ∷ writing 51 ∷ writing 52 ∷ []) (all_loaded 2 1 ∷ no_room ∷ written (two_nodes 0) ∷ [])
-    ∷ calling (mesh 2 1 3) (task 2 1 20 15 5 ∷ task 1 0 20 0 4 ∷ message 1 1 2 0 0 2 ∷ writing 4096 ∷ []) (task_taken ∷ task_taken ∷ message_taken ∷ written (two_nodes 0) ∷ [])
+    ∷ calling (mesh 2 1 3) (call.Load (two_nodes 0) ∷ call.Write 51 ∷ call.Write 52 ∷ []) (all_loaded 2 1 ∷ no_room ∷ written (two_nodes 0) ∷ [])
+    ∷ calling (mesh 2 1 3) (task 2 1 20 15 5 ∷ task 1 0 20 0 4 ∷ message 1 1 2 0 0 2 ∷ call.Write 4096 ∷ []) (task_taken ∷ task_taken ∷ message_taken ∷ written (two_nodes 0) ∷ [])
     -- a second message meets the first on its link, and is placed behind it
-    ∷ calling (mesh 2 1 3) (loading (two_nodes 0) ∷ message 2 1 2 0 1 2 ∷ open_message 2 1 2 0 2 ∷ []) (all_loaded 2 1 ∷ message_meets 5 1 0 ∷ answer.MessagePlaced (Ok 2) ∷ [])
+    ∷ calling (mesh 2 1 3) (call.Load (two_nodes 0) ∷ message 2 1 2 0 1 2 ∷ open_message 2 1 2 0 2 ∷ []) (all_loaded 2 1 ∷ message_meets 5 1 0 ∷ answer.MessagePlaced (Ok 2) ∷ [])
     -- to a faster reader the least slack is not that of packet 0, and by kind 1 there is a period more
-    ∷ calling (mesh 2 1 3) (task 1 0 20 0 4 ∷ task 2 1 8 5 1 ∷ message 1 1 2 0 0 2 ∷ message 1 1 2 1 0 2 ∷ asking_slack 1 ∷ []) (task_taken ∷ task_taken ∷ late (negsuc 7) ∷ message_taken ∷ answer.Slack (Ok (pos 12)) ∷ [])
+    ∷ calling (mesh 2 1 3) (task 1 0 20 0 4 ∷ task 2 1 8 5 1 ∷ message 1 1 2 0 0 2 ∷ message 1 1 2 1 0 2 ∷ call.Slack 1 ∷ []) (task_taken ∷ task_taken ∷ late (negsuc 7) ∷ message_taken ∷ answer.Slack (Ok (pos 12)) ∷ [])
     ∷ []
 
 -- the definitions give every case
