@@ -1,5 +1,5 @@
 -- Rule. Placings: a job is held with the smallest value whose offer would be taken.
-use Rattle.std.specs.Prelude.{ℕ, ◌+◌, ◌-◌, is_none, Some, None, Ok, Err, Option, Result}
+use Rattle.std.specs.Prelude.{ℕ, ◌+◌, ◌-◌, List, is_none, map, Some, None, Ok, Err, Option, Result}
 use Rattle.holds.specs.Search.{first_from}
 use Rattle.records.specs.declared.record.Task.{Task}
 use Rattle.jobs.specs.declared.fault.TaskFault.{TaskFault}
@@ -11,7 +11,10 @@ use Rattle.jobs.specs.declared.open.OpenMessage.{OpenMessage}
 use Rattle.jobs.specs.Checks.{admitted_message, admitted_task}
 use Rattle.jobs.specs.Jobs.{Setting, Jobs, task_named, with_task, with_message}
 use Rattle.jobs.specs.Open.{task_at, message_at}
-use Rattle.jobs.specs.Rules.{task_refusal, message_refusal}
+use Rattle.jobs.specs.Meetings.{first_met, held_task}
+use Rattle.jobs.specs.Rules.{message_refusal, packet_refusal, task_refusal}
+use Rattle.jobs.specs.Takes.{task_takes}
+use Rattle.jobs.specs.Trips.{Trip}
 
 -- what a placing answers, by the earlier checks and the smallest value, and what is held after it
 abbrev pub placed : {A E : Type 0} → Jobs → (ℕ → Jobs) → Result A E → Option ℕ → Result ℕ (PlacingFault E) × Jobs
@@ -24,6 +27,10 @@ placed js held (Ok x) (Some v) = (Ok v, held v)
 -- the smallest phase whose offer would be taken
 abbrev pub first_phase : Setting → Jobs → OpenTask → Option ℕ
 first_phase g js t = first_from (λ v. is_none (task_refusal g.network.nodes js (task_at t v))) (t.period + 1 - t.width) 0
+
+-- the smallest phase at which a task meets none of those held
+abbrev pub first_free_phase : List Task → OpenTask → Option ℕ
+first_free_phase held t = first_from (λ v. is_none (first_met (task_takes (task_at t v)) (map held_task held))) (t.period + 1 - t.width) 0
 
 -- the checks leave the phase out: phase 0 is within the limits wherever some phase is
 abbrev pub place_task : Setting → Jobs → OpenTask → Result ℕ (PlacingFault TaskFault) × Jobs
@@ -38,6 +45,10 @@ delays (Some s) = s.period
 -- the smallest delay whose offer would be taken
 abbrev pub first_delay : Setting → Jobs → OpenMessage → Option ℕ
 first_delay g js m = first_from (λ v. is_none (message_refusal g js (message_at m v))) (delays (task_named js.tasks m.source)) 0
+
+-- the smallest delay at which a message on its trip is neither late nor meets one of those held
+abbrev pub first_free_delay : Setting → Jobs → OpenMessage → Trip → Option ℕ
+first_free_delay g js m t = first_from (λ v. is_none (packet_refusal g js (message_at m v) t)) t.source.period 0
 
 -- the checks leave the delay out: delay 0 is within the limits wherever some delay is
 abbrev pub place_message : Setting → Jobs → OpenMessage → Result ℕ (PlacingFault MessageFault) × Jobs

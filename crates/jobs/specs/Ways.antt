@@ -1,5 +1,5 @@
 -- Working. What stays and ways of the code stand for.
-use Rattle.std.specs.Prelude.{◌≡◌, ℕ, List, [], map, length, ℤ, Some, None, Option}
+use Rattle.std.specs.Prelude.{◌≡◌, ℕ, List, [], map, length, ℤ, Some, None, Option, MatchOption}
 use Rattle.std.specs.Option.{option_map}
 use Rattle.fabric.specs.Network.{Network, route_place}
 use Rattle.records.specs.declared.record.Task.{Task}
@@ -41,6 +41,10 @@ pub record StaysOn (net : Network) (w : Way) (i start : ℕ) (s : Stay) : Type 0
   pub number : ℕ
   pub at : Some number ≡ route_place (net.route w.from w.to) i
   pub takes : stay_take s ≡ take_of (record { place = link number; span = record { start = start; period = w.period; width = w.width } })
+
+-- the stay at a place, or none past the end of the route
+abbrev pub StayAt : Network → Way → ℕ → ℕ → Option Stay → Type 0
+StayAt net w i start o = MatchOption o (None ≡ route_place (net.route w.from w.to) i) (StaysOn net w i start)
 
 -- the way of a message on its trip
 pub record IsWay (net : Network) (t : Trip) (m : Message) (w : Way) : Type 0 where

@@ -1,8 +1,7 @@
 //! Who holds a core or a link at an instant.
 ghost use Rattle.jobs.specs.Holding.{first_run, holder_among, run_on, with_name};
-ghost use Rattle.jobs.specs.Jobs.{created_on};
-ghost use Rattle.jobs.specs.Meetings.{held_message, held_task};
-ghost use Rattle.jobs.specs.Routings.{job_of};
+ghost use Rattle.jobs.specs.Meetings.{held_task};
+ghost use Rattle.jobs.specs.Routings.{held_beside, job_of};
 ghost use Rattle.jobs.specs.Ways.{stay_take};
 ghost use Rattle.std.specs.Prelude.{◌≡◌, map};
 
@@ -60,7 +59,7 @@ pub fn task_holder(held: &[Task], core: Place, instant: u64) -> Option<(u16, u64
 impl<'a, F: Fabric> Routing<'a, F> {
     /// The held message that has a link at an instant, by its name, and its packet there.
     pub fn message_holder(&self, held: &[Message], link: Place, instant: u64) -> Option<(u16, u64)>
-        ensures { result ≡ holder_among link instant (map (held_message (created_on (F.meaning self.now.fabric.now)) self.now.tasks.now) held.now) }
+        ensures { result ≡ holder_among link instant (held_beside F.meaning self.now held.now) }
     {
         holder(self, held, link, instant)
     }

@@ -2,17 +2,16 @@
 ghost use Rattle.fabric.specs.Network.{Network};
 ghost use Rattle.jobs.specs.Checks.{message_timely};
 ghost use Rattle.jobs.specs.Drops.{in_use, names_task};
-ghost use Rattle.jobs.specs.Jobs.{created_on};
-ghost use Rattle.jobs.specs.Meetings.{first_met, held_message};
+ghost use Rattle.jobs.specs.Meetings.{first_met};
 ghost use Rattle.jobs.specs.Open.{message_at};
-ghost use Rattle.jobs.specs.Routings.{IsAdmitted};
+ghost use Rattle.jobs.specs.Routings.{IsAdmitted, held_beside, setting_on};
 ghost use Rattle.jobs.specs.Slacks.{lateness, slack_among};
 ghost use Rattle.jobs.specs.Takes.{message_takes};
 ghost use Rattle.jobs.specs.Timing.{arrival};
 ghost use Rattle.jobs.specs.Trips.{Trip};
 ghost use Rattle.jobs.specs.Waits.{InTime};
 ghost use Rattle.jobs.specs.Ways.{takes_on, way_slack, way_takes};
-ghost use Rattle.std.specs.Prelude.{◌≡◌, ◌+◌, ◌≤◌, true, false, map, min, pos, nat_abs, int_lt};
+ghost use Rattle.std.specs.Prelude.{◌≡◌, ◌+◌, ◌≤◌, true, false, min, pos, nat_abs, int_lt};
 
 use crate::meeting::{Meeting, first_among};
 use crate::open::OpenMessage;
@@ -90,7 +89,7 @@ pub fn late_by(way: &Way, kind: u8, destination: &Task) -> Option<i64>
 impl<'a, F: Fabric> Routing<'a, F> {
     // The way of a held message, by the names of its tasks.
     pub(crate) fn way_of(&self, m: &Message) -> Option<Way>
-        ensures { takes_on (F.meaning self.now.fabric.now) result ≡ message_takes (created_on (F.meaning self.now.fabric.now)) self.now.tasks.now m.now }
+        ensures { takes_on (F.meaning self.now.fabric.now) result ≡ message_takes (setting_on F.meaning self.now) self.now.tasks.now m.now }
     {
         let ends = self.ends(m)?;
         Way::of(self.fabric, &ends, m)
@@ -98,7 +97,7 @@ impl<'a, F: Fabric> Routing<'a, F> {
 
     /// The first meeting of packets on their way with those of the held messages.
     pub fn first_packet_meeting(&self, held: &[Message], own: &Way) -> Option<Meeting>
-        ensures { result ≡ first_met (way_takes (F.meaning self.now.fabric.now) own.now) (map (held_message (created_on (F.meaning self.now.fabric.now)) self.now.tasks.now) held.now) }
+        ensures { result ≡ first_met (way_takes (F.meaning self.now.fabric.now) own.now) (held_beside F.meaning self.now held.now) }
     {
         let stays = own.stays(self.fabric);
         first_among(self, held, stays.as_slice())
@@ -106,7 +105,7 @@ impl<'a, F: Fabric> Routing<'a, F> {
 
     /// The least slack of a message between two of the tasks.
     pub fn slack_of(&self, m: &Message) -> Option<i64>
-        ensures { result ≡ slack_among (created_on (F.meaning self.now.fabric.now)) self.now.tasks.now m.now }
+        ensures { result ≡ slack_among (setting_on F.meaning self.now) self.now.tasks.now m.now }
     {
         let ends = self.ends(m)?;
         let way = Way::of(self.fabric, &ends, m)?;

@@ -3,15 +3,9 @@
 //! From a value at which the job meets a held one, the search goes on at the first value that is clear of that one. The searches
 //! for a phase and for a delay stand each by itself: a closure that tries a value would have to hand back its job, its way and
 //! its meeting. Which delays are in time is known before the search.
-ghost use Rattle.std.specs.Prelude.{◌≡◌, ◌+◌, ◌-◌, is_none, map};
-ghost use Rattle.holds.specs.Search.{first_from};
-ghost use Rattle.jobs.specs.Jobs.{created_on};
-ghost use Rattle.jobs.specs.Meetings.{first_met, held_task};
-ghost use Rattle.jobs.specs.Open.{message_at, task_at};
-ghost use Rattle.jobs.specs.Routings.{IsAdmitted, job_of};
-ghost use Rattle.jobs.specs.Rules.{packet_refusal};
-ghost use Rattle.jobs.specs.Takes.{task_takes};
-ghost use Rattle.jobs.specs.Trips.{Trip};
+ghost use Rattle.std.specs.Prelude.{◌≡◌, map};
+ghost use Rattle.jobs.specs.Placings.{first_free_phase};
+ghost use Rattle.jobs.specs.Routings.{FindsDelay, job_of};
 ghost use Rattle.jobs.specs.Waits.{Among, StillMeets, StillMet};
 ghost use Rattle.jobs.specs.Ways.{stay_take};
 
@@ -67,7 +61,7 @@ fn wait_past<B, J: Held<B>>(routing: &B, held: &[J], own: &[Stay], meeting: &Mee
 
 /// The smallest phase at which the task meets none of those held. Over the held tasks alone: a routing would ask for a fabric.
 pub fn first_phase(held: &[Task], t: &OpenTask) -> Option<u32>
-    ensures { result ≡ first_from (λ v. is_none (first_met (task_takes (task_at t.now v)) (map held_task held.now))) (t.now.period + 1 - t.now.width) 0 }
+    ensures { result ≡ first_free_phase held.now t.now }
 {
     let last = t.period.checked_sub(t.width)?;
     let mut phase: u32 = 0;
@@ -86,7 +80,7 @@ pub fn first_phase(held: &[Task], t: &OpenTask) -> Option<u32>
 impl<'a, F: Fabric> Routing<'a, F> {
     /// The smallest delay at which a message, whose trip is given at delay 0, is neither late nor meets a held one.
     pub fn first_delay(&self, held: &[Message], at_once: &Admitted, m: &OpenMessage) -> Option<u32>
-        ensures { (t : Trip) → IsAdmitted (F.meaning self.now.fabric.now) t (message_at m.now 0) at_once.now → result ≡ first_from (λ v. is_none (packet_refusal (created_on (F.meaning self.now.fabric.now)) (record { tasks = self.now.tasks.now; messages = held.now }) (message_at m.now v) t)) t.source.period 0 }
+        ensures { FindsDelay F.meaning self.now held.now at_once.now m.now result }
     {
         let count = delays_in_time(at_once, m);
         let mut delay: u32 = 0;

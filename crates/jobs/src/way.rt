@@ -33,15 +33,14 @@ pub struct Admitted {
 }
 
 impl Way {
-    ghost use Rattle.fabric.specs.Network.{route_place};
     ghost use Rattle.jobs.specs.Meetings.{earliest_from, meetings};
-    ghost use Rattle.jobs.specs.Routings.{trip_along};
-    ghost use Rattle.jobs.specs.Ways.{IsWay, StaysOn, stay_take, way_takes};
-    ghost use Rattle.std.specs.Prelude.{◌≡◌, ℕ, List, map, None, MatchOption};
+    ghost use Rattle.jobs.specs.Routings.{WayBetween};
+    ghost use Rattle.jobs.specs.Ways.{StayAt, stay_take, way_takes};
+    ghost use Rattle.std.specs.Prelude.{◌≡◌, map};
 
     /// The way of a message between two tasks, or none where the fabric has no route.
     pub fn of<F: Fabric>(fabric: &F, ends: &Ends, m: &Message) -> Option<Way>
-        ensures { MatchOption result ((F.meaning fabric.now).route ends.now.source.core ends.now.destination.core ≡ None) (λ w. (r : List ℕ) × IsWay (F.meaning fabric.now) (trip_along ends.now r) m.now w) }
+        ensures { WayBetween (F.meaning fabric.now) ends.now m.now result }
     {
         let source = ends.source;
         let from = source.core as usize;
@@ -62,7 +61,7 @@ impl Way {
     // asked for each link of each held message by each offer
     #[inline(always)]
     fn stay_on<F: Fabric>(&self, fabric: &F, place: usize, start: u64) -> Option<Stay>
-        ensures { MatchOption result (None ≡ route_place ((F.meaning fabric.now).route self.now.from self.now.to) place) (StaysOn (F.meaning fabric.now) self.now place start) }
+        ensures { StayAt (F.meaning fabric.now) self.now place start result }
     {
         let link = fabric.route_link(self.from, self.to, place)?;
         Some(Stay {

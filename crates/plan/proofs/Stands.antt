@@ -24,7 +24,7 @@ use Rattle.jobs.specs.Placings.{place_message, place_task}
 use Rattle.jobs.specs.Rules.{offer_message, offer_task}
 use Rattle.jobs.specs.Slacks.{slack}
 use Rattle.promise.specs.Offers.{MessageAnswer, MessagePlacing, TaskAnswer, TaskPlacing}
-use Rattle.promise.specs.Questions.{HolderAnswer, SlackTold}
+use Rattle.promise.specs.Questions.{HolderAnswer, SlackAnswer}
 use Rattle.promise.specs.Tabled.{tabled}
 use Rattle.promise.proofs.Early.{message_answer, message_placing, task_answer, task_placing}
 use Rattle.promise.proofs.Questions.{holder_answer, slack_told}
@@ -32,10 +32,10 @@ use Rattle.jobs.specs.Jobs.{Jobs, Setting, nothing}
 use Rattle.refusals.specs.Told.{refusal_of}
 use Rattle.plan.specs.After.{Leaves}
 use Rattle.plan.specs.Follows.{Follows, Says}
-use Rattle.plan.specs.Held.{jobs, setting}
+use Rattle.plan.specs.Held.{SameSetting, jobs, setting}
 use Rattle.plan.specs.declared.plan.Plan.{Plan}
 use Rattle.plan.specs.Loading.{load, loaded}
-use Rattle.plan.specs.Loads.{LoadLeft, LoadTold, load_tries}
+use Rattle.plan.specs.Loads.{LoadLeft, LoadAnswer, load_tries}
 use Rattle.plan.specs.declared.fault.LoadFault.{LoadFault}
 use Rattle.refusals.specs.declared.refusal.Counts.{Counts}
 use Rattle.plan.specs.Round.{LoadsBack}
@@ -86,9 +86,9 @@ module _ {T E : Type 0} where
   says_of r tell rule e = record { answer = e; numbers = ap (refusal_of tell) e }
 
   module _ (rule : Result T E × Jobs) (r : Result T E) where
-    pub follows_of : {F : Type 0} {B : Ghosts F} {N : Type 0} (old new : Plan F B) (tell : E → N) → r ≡ rule.0 → jobs new ≡ rule.1 → new.fabric ≡ old.fabric
+    pub follows_of : {F : Type 0} {B : Ghosts F} {N : Type 0} (old new : Plan F B) (tell : E → N) → r ≡ rule.0 → jobs new ≡ rule.1 → SameSetting old new
         → Follows old new r tell rule
-    follows_of old new tell answer after fabric = record { answer = answer; numbers = ap (refusal_of tell) answer; after = after; fabric = fabric }
+    follows_of old new tell answer after alike = record { answer = answer; numbers = ap (refusal_of tell) answer; after = after; alike = alike }
 
     -- a call that the rule refuses leaves what was held
     pub stays_of : (js : Jobs) (Does : T → Jobs → Type 0) (e : E) → Leaves js Does rule.0 rule.1 → Err e ≡ rule.0 → js ≡ rule.1
@@ -114,8 +114,8 @@ module _ {F : Type 0} {B : Ghosts F} (p : Plan F B) where
   pub message_placing_of : (m : OpenMessage) (r : Result ℕ (PlacingFault MessageFault)) → r ≡ (place_message (setting p) (jobs p) m).0 → MessagePlacing (setting p) (jobs p) m r
   message_placing_of m r e = subst (MessagePlacing (setting p) (jobs p) m) (sym e) (message_placing (setting p) (jobs p) m)
 
-  pub slack_told_of : (n : ℕ) (r : Result ℤ DropFault) → r ≡ slack (setting p) (jobs p) n → SlackTold (setting p) (jobs p) n r
-  slack_told_of n r e = subst (SlackTold (setting p) (jobs p) n) (sym e) (slack_told (setting p) (is_fabric B.bounded (B.lawful p.fabric.now)) (jobs p) (clean_of p) n)
+  pub slack_told_of : (n : ℕ) (r : Result ℤ DropFault) → r ≡ slack (setting p) (jobs p) n → SlackAnswer (setting p) (jobs p) n r
+  slack_told_of n r e = subst (SlackAnswer (setting p) (jobs p) n) (sym e) (slack_told (setting p) (is_fabric B.bounded (B.lawful p.fabric.now)) (jobs p) (clean_of p) n)
 
   pub holder_answer_of : (place : Place) (n : ℕ) (r : Result (Option (ℕ × ℕ)) PlaceFault) → r ≡ holder (setting p) (jobs p) place n → HolderAnswer (setting p) (jobs p) place n r
   holder_answer_of place n r e =
@@ -132,8 +132,8 @@ module _ {F : Type 0} {B : Ghosts F} (p : Plan F B) where
   message_dropped_of n r e = subst (MessageDropped (jobs p) n) (sym e) (message_dropping (jobs p) n)
 
   -- a load is answered as promised, and leaves what was held and the jobs of its taken offers
-  pub load_told_of : (part : List ℕ) (r : Result Counts LoadFault) → r ≡ (load (setting p) (jobs p) part).0 → LoadTold (setting p) (jobs p) part r
-  load_told_of part r e = subst (LoadTold (setting p) (jobs p) part) (sym e) (load_told (setting p) (is_fabric B.bounded (B.lawful p.fabric.now)) (jobs p) (clean_of p) part)
+  pub load_told_of : (part : List ℕ) (r : Result Counts LoadFault) → r ≡ (load (setting p) (jobs p) part).0 → LoadAnswer (setting p) (jobs p) part r
+  load_told_of part r e = subst (LoadAnswer (setting p) (jobs p) part) (sym e) (load_told (setting p) (is_fabric B.bounded (B.lawful p.fabric.now)) (jobs p) (clean_of p) part)
 
   pub load_left_of : (part : List ℕ) (after : Jobs) → after ≡ (load (setting p) (jobs p) part).1 → LoadLeft (load_tries (setting p) (jobs p) part) (jobs p) after
   load_left_of part after e = subst (LoadLeft (load_tries (setting p) (jobs p) part) (jobs p)) (sym e) (load_left (setting p) (jobs p) part)

@@ -8,7 +8,7 @@ use Rattle.std.proofs.lemmas.List.{length-map}
 use Rattle.fabric.specs.Network.{IsFabric}
 use Rattle.records.specs.declared.record.Task.{Task}
 use Rattle.records.specs.declared.record.Message.{Message}
-use Rattle.jobs.specs.Jobs.{Jobs, Setting, message_name, task_name, with_message, with_task}
+use Rattle.jobs.specs.Jobs.{In, IsHeld, Jobs, Setting, message_name, task_name, with_message, with_task}
 use Rattle.jobs.specs.Offered.{joined, offer, refused}
 use Rattle.jobs.specs.Rules.{message_refusal, offer_message, offer_task, offered, task_refusal}
 use Rattle.jobs.specs.declared.fault.TaskFault.{TaskFault}
@@ -18,12 +18,11 @@ use Rattle.jobs.specs.declared.job.Job.TheVariants as job
 use Rattle.jobs.specs.declared.job.JobFault.{JobFault}
 use Rattle.jobs.specs.declared.job.JobFault.TheVariants as job_fault
 use Rattle.promise.specs.Clean.{Clean}
-use Rattle.jobs.specs.Jobs.{In}
 use Rattle.promise.proofs.Early.{message_answer, task_answer}
 use Rattle.promise.proofs.Lists.{add_new, add_old, in_add, in_cases, in_here, in_nil, in_there}
 use Rattle.plan.specs.After.{Leaves}
 use Rattle.plan.specs.Loading.{counted, file_order, in_turn, job_part, load, loaded, on_taken, section_place}
-use Rattle.plan.specs.Loads.{Held, JobAnswer, JobMore, LoadLeft, LoadTold, OfRecord, PartTold, RefusedAt, Taken, Try, all_joined, file_place, if_taken, load_tries, named_record, part_records, tries}
+use Rattle.plan.specs.Loads.{JobAnswer, JobMore, LoadLeft, LoadAnswer, OfRecord, PartAnswer, RefusedAt, Taken, Try, all_joined, file_place, if_taken, load_tries, named_record, part_records, tries}
 use Rattle.plan.specs.declared.fault.LayoutFault.{LayoutFault}
 use Rattle.plan.proofs.Loads.{job_taken}
 
@@ -76,7 +75,7 @@ module _ (g : Setting) (fab : IsFabric g.network) where
 -- ---- one job more
 
 -- a job more is held beside those before, and no other
-grows : (js : Jobs) (x y : Job) → Held (joined js x) y ↔ ((y ≡ x) ⊎ Held js y)
+grows : (js : Jobs) (x y : Job) → IsHeld (joined js x) y ↔ ((y ≡ x) ⊎ IsHeld js y)
 grows js (job.Task t) (job.Task u) = (
   λ i. ⊎_elim (λ e. inl (ap job.Task e)) (λ j. inr j) (in_add task_name t u js.tasks i),
   ⊎_elim (λ e. let same : u ≡ t = cc in subst (λ z. In z (with_task js t).tasks) (sym same) (add_new task_name t js.tasks)) (λ i. add_old task_name t u js.tasks i),
@@ -97,7 +96,7 @@ job_left g js x = go (refused g js x)
     go (Some f) = refl
 
 -- jobs more are held beside those before, and no other
-pub members_joined : (js : Jobs) (xs : List Job) (y : Job) → Held (all_joined js xs) y ↔ (In y xs ⊎ Held js y)
+pub members_joined : (js : Jobs) (xs : List Job) (y : Job) → IsHeld (all_joined js xs) y ↔ (In y xs ⊎ IsHeld js y)
 members_joined js [] y = (λ i. inr i, ⊎_elim (λ i. absurd (in_nil y i)) (λ i. i))
 members_joined js (x ∷ xs) y =
     let r = members_joined (joined js x) xs y in (
@@ -218,8 +217,8 @@ module _ (g : Setting) where
       rest : List Try
       rest = tries g (joined js x) xs
 
-      go : (o : Option JobFault) → Held (in_turn g (joined js x) (k + 1) xs).1 y ↔ (Taken (tries g (joined js x) xs) y ⊎ Held (joined js x) y)
-          → Held (on_taken k o js (in_turn g (joined js x) (k + 1) xs)).1 y ↔ (Taken (begun o js x xs) y ⊎ Held js y)
+      go : (o : Option JobFault) → IsHeld (in_turn g (joined js x) (k + 1) xs).1 y ↔ (Taken (tries g (joined js x) xs) y ⊎ IsHeld (joined js x) y)
+          → IsHeld (on_taken k o js (in_turn g (joined js x) (k + 1) xs)).1 y ↔ (Taken (begun o js x xs) y ⊎ IsHeld js y)
       go None next =
           let first : Try = record { before = js; job = x; answer = Ok tt } in (
             λ i. ⊎_elim (λ t. inl (t.0, in_there first t.0 (tries g (joined js x) xs) t.1, t.2, t.3))
@@ -312,16 +311,16 @@ refused_at g js ts ms p is =
     }
 
 -- the load's answer, by its offers
-pub load_told : (g : Setting) → IsFabric g.network → (js : Jobs) → Clean g js → (part : List ℕ) → LoadTold g js part (load g js part).0
+pub load_told : (g : Setting) → IsFabric g.network → (js : Jobs) → Clean g js → (part : List ℕ) → LoadAnswer g js part (load g js part).0
 load_told g fab js clean part =
     record {
       each = tries_of g js (part_records (job_part part));
       exact = tries_exact g fab js (part_records (job_part part)) clean;
       taken = before_last g js (part_records (job_part part));
-      told = go (job_part part);
+      answer = go (job_part part);
     }
   where
-    records : (p : List Task × List Message) (r : Result (Unit {0}) (ℕ × JobFault)) → (in_turn g js 0 (file_order p)).0 ≡ r → PartTold (tries g js (file_order p)) (Ok p) (counted p r)
+    records : (p : List Task × List Message) (r : Result (Unit {0}) (ℕ × JobFault)) → (in_turn g js 0 (file_order p)).0 ≡ r → PartAnswer (tries g js (file_order p)) (Ok p) (counted p r)
     records p (Ok u) is =
         let a = each_taken g js 0 (file_order p) is in
         record {
@@ -334,6 +333,6 @@ load_told g fab js clean part =
         }
     records p (Err q) is = refused_at g js p.0 p.1 q is
 
-    go : (o : Result (List Task × List Message) LayoutFault) → PartTold (tries g js (part_records o)) o (loaded g js o).0
+    go : (o : Result (List Task × List Message) LayoutFault) → PartAnswer (tries g js (part_records o)) o (loaded g js o).0
     go (Err e) = refl
     go (Ok p) = records p (in_turn g js 0 (file_order p)).0 refl

@@ -1,5 +1,5 @@
 -- Meaning. What a plan holds, and what it was created with.
-use Rattle.std.specs.Prelude.{length}
+use Rattle.std.specs.Prelude.{◌≡◌, length}
 use Rattle.fabric.specs.declared.Fabric.{Ghosts}
 use Rattle.refusals.specs.declared.refusal.Counts.{Counts}
 use Rattle.jobs.specs.Jobs.{Jobs, Setting, created_on}
@@ -17,3 +17,7 @@ counts_of js = record { tasks = length js.tasks; messages = length js.messages }
 -- the setting of a plan, by what its kind of fabric means
 abbrev pub setting : {F : Type 0} {B : Ghosts F} → Plan F B → Setting
 setting {B = B} p = created_on (B.meaning p.fabric.now)
+
+-- two plans were created alike: over the same fabric
+abbrev pub SameSetting : {F : Type 0} {B : Ghosts F} → Plan F B → Plan F B → Type 0
+SameSetting p q = q.fabric ≡ p.fabric

@@ -1,7 +1,7 @@
 -- Meaning. What a load offers, what it answers by these offers, and what it leaves.
 --   Try, load_tries    an offer as it is tried, and those that a load makes
 --   JobAnswer          what is promised of the answer to the offer of a job of either kind
---   LoadTold           what is promised of the answer to a load
+--   LoadAnswer         what is promised of the answer to a load
 --   LoadLeft           what a load leaves held
 use Rattle.std.specs.Prelude.{◌≡◌, ℕ, suc, ◌+◌, ◌<◌, ◌⊎◌, ◌↔◌, List, [], ◌∷◌, length, take, Some, Ok, Err, Option, Result}
 use Rattle.std.specs.List.{slice_get}
@@ -10,7 +10,7 @@ use Rattle.std.specs.Result.{result_map_both}
 use Rattle.records.specs.declared.record.Task.{Task}
 use Rattle.records.specs.declared.record.Message.{Message}
 use Rattle.refusals.specs.declared.refusal.Counts.{Counts}
-use Rattle.jobs.specs.Jobs.{Jobs, Setting}
+use Rattle.jobs.specs.Jobs.{In, IsHeld, Jobs, Setting}
 use Rattle.jobs.specs.Offered.{joined, offer}
 use Rattle.jobs.specs.declared.fault.TaskFault.{TaskFault}
 use Rattle.jobs.specs.declared.fault.MessageFault.{MessageFault}
@@ -18,7 +18,6 @@ use Rattle.jobs.specs.declared.job.Job.{Job}
 use Rattle.jobs.specs.declared.job.Job.TheVariants as job
 use Rattle.jobs.specs.declared.job.JobFault.{JobFault}
 use Rattle.jobs.specs.declared.job.JobFault.TheVariants as job_fault
-use Rattle.jobs.specs.Jobs.{In}
 use Rattle.promise.specs.Offers.{MessageAnswer, TaskAnswer}
 use Rattle.plan.specs.Loading.{file_order, job_part}
 use Rattle.plan.specs.declared.fault.LayoutFault.{LayoutFault}
@@ -101,29 +100,24 @@ pub record RefusedAt (ys : List Try) (part : Result (List Task × List Message) 
   pub last : length ys ≡ suc (file_place tasks k e)
 
 -- what a load answers, by the offers that it tries and what its bytes read as
-abbrev pub PartTold : List Try → Result (List Task × List Message) LayoutFault → Result Counts LoadFault → Type 0
-PartTold ys part (Ok n) = AllTaken ys part n
-PartTold ys part (Err (Layout e)) = part ≡ Err e
-PartTold ys part (Err (Offer k e)) = RefusedAt ys part k e
+abbrev pub PartAnswer : List Try → Result (List Task × List Message) LayoutFault → Result Counts LoadFault → Type 0
+PartAnswer ys part (Ok n) = AllTaken ys part n
+PartAnswer ys part (Err (Layout e)) = part ≡ Err e
+PartAnswer ys part (Err (Offer k e)) = RefusedAt ys part k e
 
 -- the offers are those of the records in file order; each is answered as promised, and all but the last were taken; and the answer tells
 -- that all were taken, what is wrong with the layout, or which was refused and why
-pub record LoadTold (g : Setting) (js : Jobs) (part : List ℕ) (r : Result Counts LoadFault) : Type 0 where
+pub record LoadAnswer (g : Setting) (js : Jobs) (part : List ℕ) (r : Result Counts LoadFault) : Type 0 where
   pub each : (k : ℕ) (y : Try) → slice_get (load_tries g js part) k ≡ Some y → OfRecord js (part_records (job_part part)) k y
   pub exact : (y : Try) → In y (load_tries g js part) → JobAnswer g y.before y.job y.answer
   pub taken : (k : ℕ) (y : Try) → suc k < length (load_tries g js part) → slice_get (load_tries g js part) k ≡ Some y → y.answer ≡ Ok tt
-  pub told : PartTold (load_tries g js part) (job_part part) r
+  pub answer : PartAnswer (load_tries g js part) (job_part part) r
 
 -- ---- what a load leaves
 
--- a job is held
-abbrev pub Held : Jobs → Job → Type 0
-Held js (job.Task t) = In t js.tasks
-Held js (job.Message m) = In m js.messages
-
 -- a job, those held before, and no other
 abbrev pub JobMore : Jobs → Job → Jobs → Type 0
-JobMore js x after = (y : Job) → Held after y ↔ ((y ≡ x) ⊎ Held js y)
+JobMore js x after = (y : Job) → IsHeld after y ↔ ((y ≡ x) ⊎ IsHeld js y)
 
 -- one of the offers of a job was taken
 abbrev pub Taken : List Try → Job → Type 0
@@ -131,4 +125,4 @@ Taken ys x = (y : Try) × In y ys × (y.job ≡ x) × (y.answer ≡ Ok tt)
 
 -- the jobs held before and those of its taken offers, and no other
 abbrev pub LoadLeft : List Try → Jobs → Jobs → Type 0
-LoadLeft ys js after = (x : Job) → Held after x ↔ (Taken ys x ⊎ Held js x)
+LoadLeft ys js after = (x : Job) → IsHeld after x ↔ (Taken ys x ⊎ IsHeld js x)

@@ -5,6 +5,7 @@ ghost use Rattle.promise.specs.Clean.{Clean};
 ghost use Rattle.promise.specs.Tabled.{tabled};
 
 use fabric::Fabric;
+use jobs::routing::Routing;
 use records::record::{Message, Task};
 use records::tables::Table;
 
@@ -27,4 +28,33 @@ pub struct Plan<'f, F: Fabric> {
     ghost clean: { ∥ Clean (created_on (F.meaning fabric.now)) (tabled tasks messages) ∥₁ },
     ghost ordered: { Canonical (tabled tasks messages) },
     ghost short: { ShortNames (tabled tasks messages) },
+}
+
+impl<'f, F: Fabric> Plan<'f, F> {
+    ghost use Rattle.jobs.specs.Jobs.{nothing};
+    ghost use Rattle.plan.specs.Held.{jobs};
+    ghost use Rattle.std.specs.Prelude.{◌≡◌};
+
+    /// A plan over a fabric that holds nothing.
+    pub fn new(fabric: &'f F) -> Self
+        ensures fabric { result.fabric ≡ fabric.entry }
+        ensures empty { jobs result ≡ nothing }
+    {
+        Plan {
+            fabric,
+            tasks: Table::new([Task::EMPTY; 64]),
+            messages: Table::new([Message::EMPTY; 128]),
+        }
+    }
+
+    // What packets go by.
+    pub(crate) fn routing(&self) -> Routing<'_, F>
+        ensures fabric { result.fabric ≡ self.now.fabric }
+        ensures tasks { result.tasks.now ≡ (jobs self.now).tasks }
+    {
+        Routing {
+            fabric: self.fabric,
+            tasks: self.tasks.held(),
+        }
+    }
 }

@@ -30,7 +30,7 @@ use Rattle.jobs.proofs.Limits.{slack_formula}
 use Rattle.jobs.proofs.PlaceLemmas.{same_place_refl, same_place_true}
 use Rattle.jobs.proofs.Slacks.{held_slack}
 use Rattle.promise.specs.Clean.{Clean, Uses}
-use Rattle.promise.specs.Questions.{HolderAnswer, HolderTold, SlackTold}
+use Rattle.promise.specs.Questions.{HolderAnswer, HolderFound, SlackAnswer}
 use Rattle.promise.proofs.Lists.{apart_none, in_map, in_named, map_in, named_in}
 use Rattle.promise.proofs.Takes.{Whole, held_whole, made_goes, packet_link, take_uses, task_core, uses_take}
 
@@ -63,7 +63,7 @@ module _ (g : Setting) (js : Jobs) (p : Place) (n : ℕ) (hs : List HeldJob)
       nobody : ((x : Job) (k : ℕ) → IsHeld js x → Uses g js x k p n → ⊥) → (x : Job) × IsHeld js x × (job_name x ≡ t.0) × Uses g js x t.1 p n → ⊥
       nobody never (x, i, e, u) = never x t.1 i u
 
-  told_holder : (o : Option (ℕ × ℕ)) → HolderIs hs p n o → HolderTold g js p n o
+  told_holder : (o : Option (ℕ × ℕ)) → HolderIs hs p n o → HolderFound g js p n o
   told_holder o h = record { some = told_some o h; none = told_none o h }
 
 -- ---- the held jobs of one kind, by what they take and by their runs
@@ -106,7 +106,7 @@ module _ (g : Setting) (js : Jobs) (p : Place) (n : ℕ) {X : Type 0} (name : X 
 
 module _ (g : Setting) (fab : IsFabric g.network) (js : Jobs) (clean : Clean g js) where
   -- who has the place among the jobs that take places of its kind has it among all
-  held_on : (p : Place) (n : ℕ) (k : PlaceKind) → p.kind ≡ k → (o : Option (ℕ × ℕ)) → holder_among p n (jobs_on g js k) ≡ o → HolderTold g js p n o
+  held_on : (p : Place) (n : ℕ) (k : PlaceKind) → p.kind ≡ k → (o : Option (ℕ × ℕ)) → holder_among p n (jobs_on g js k) ≡ o → HolderFound g js p n o
   held_on p n kind.Core is o e =
       told_holder g js p n (map held_task js.tasks) (λ x y i j k l u v. clean.safe.apart x y i j k l p n u v) from to o
       (subst (HolderIs (map held_task js.tasks) p n) e (holder_is p n (map held_task js.tasks) (tasks_fit js.tasks)))
@@ -155,10 +155,10 @@ module _ (g : Setting) (fab : IsFabric g.network) (js : Jobs) (clean : Clean g j
       )
 
   -- the told slack is the least over all packets, and each held message has one
-  pub slack_told : (n : ℕ) → SlackTold g js n (slack g js n)
+  pub slack_told : (n : ℕ) → SlackAnswer g js n (slack g js n)
   slack_told n =
       record {
-        told = λ v e. held_slack g js n v (inside (slack_held g js n) v e);
+        value = λ v e. held_slack g js n v (inside (slack_held g js n) v e);
         refused = (
           λ x m i same. clash x.0 x.1 m i same,
           λ none. (Unknown, ap (λ (o : Option Message). ok_or (option_and_then (slack_among g js.tasks) o) Unknown) (apart_none message_name n js.messages none)),

@@ -1,7 +1,7 @@
 -- Meaning. What the answers to questions say of a plan, by its runs and packets.
---   HolderTold   a told holder of a place at an instant is the run that has it, and none where no run has
+--   HolderFound   a told holder of a place at an instant is the run that has it, and none where no run has
 --   Holds        of a place of the fabric, or a number that is no place
---   SlackTold    a told slack is the least over all packets of the held message, and none is told where no message has the name
+--   SlackAnswer    a told slack is the least over all packets of the held message, and none is told where no message has the name
 use Rattle.std.specs.Prelude.{◌≡◌, ℕ, ◌↔◌, ◌<◌, ◌≤◌, ℤ, Some, None, Ok, Err, Option, Result, ◌≢◌}
 use Rattle.records.specs.declared.record.Message.{Message}
 use Rattle.jobs.specs.declared.fault.DropFault.{DropFault}
@@ -16,13 +16,13 @@ use Rattle.promise.specs.Clean.{Uses}
 
 -- a told holder of the place at the instant n: (name, k) exactly when run k of a held job of that name has the place then, and none
 -- exactly when no run of any held job has
-pub record HolderTold (g : Setting) (js : Jobs) (place : Place) (n : ℕ) (o : Option (ℕ × ℕ)) : Type 0 where
+pub record HolderFound (g : Setting) (js : Jobs) (place : Place) (n : ℕ) (o : Option (ℕ × ℕ)) : Type 0 where
   pub some : (name k : ℕ) → (o ≡ Some (name, k)) ↔ ((x : Job) × IsHeld js x × (job_name x ≡ name) × Uses g js x k place n)
   pub none : (o ≡ None) ↔ ((x : Job) (k : ℕ) → IsHeld js x → Uses g js x k place n → ⊥)
 
 -- of a place of the fabric, or of a number that is not below the count of its kind
 abbrev pub HolderAnswer : Setting → Jobs → Place → ℕ → Result (Option (ℕ × ℕ)) PlaceFault → Type 0
-HolderAnswer g js p n (Ok o) = (p.number < place_count g.network p.kind) × HolderTold g js p n o
+HolderAnswer g js p n (Ok o) = (p.number < place_count g.network p.kind) × HolderFound g js p n o
 HolderAnswer g js p n (Err e) = place_count g.network p.kind ≤ p.number
 
 abbrev pub CoreAnswer : Setting → Jobs → ℕ → ℕ → Result (Option (ℕ × ℕ)) PlaceFault → Type 0
@@ -33,6 +33,6 @@ LinkAnswer g js l n = HolderAnswer g js (link l) n
 
 -- a told slack of the name n is the least: some packet of the held message of that name has it, and none has less; and it is refused
 -- exactly when no held message has the name
-pub record SlackTold (g : Setting) (js : Jobs) (n : ℕ) (r : Result ℤ DropFault) : Type 0 where
-  pub told : (v : ℤ) → r ≡ Ok v → HeldSlack g js n v
+pub record SlackAnswer (g : Setting) (js : Jobs) (n : ℕ) (r : Result ℤ DropFault) : Type 0 where
+  pub value : (v : ℤ) → r ≡ Ok v → HeldSlack g js n v
   pub refused : ((e : DropFault) × (r ≡ Err e)) ↔ ((m : Message) → In m js.messages → m.name ≢ n)

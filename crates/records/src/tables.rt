@@ -1,5 +1,5 @@
 //! Tables of what has names, in ascending names: the first so many entries are held, and the rest are free.
-ghost use Rattle.std.specs.Prelude.{◌≡◌, ◌+◌, ◌-◌, ◌<◌, ◌≤◌, if◌then◌else◌, ◌++◌, [], ◌∷◌, length, take, drop, nat_le, nat_lt, is_ok, None, IfSome, MatchOption, MatchResult};
+ghost use Rattle.std.specs.Prelude.{◌≡◌, ◌+◌, ◌-◌, ◌<◌, ◌≤◌, cond, ◌++◌, [], ◌∷◌, length, take, drop, nat_le, nat_lt, is_ok, None, IfSome, MatchResult};
 ghost use Rattle.std.specs.List.{insert, prefix_len, remove};
 ghost use Rattle.records.specs.Named.{named, add, without};
 
@@ -94,8 +94,9 @@ pub fn insert<R: Named + Copy>(rows: &mut [R], count: usize, x: R) -> Result<(),
 /// Takes the first of a name out of the first `count`, where one has it; it then stands behind those still held. Over any slice
 /// and count too: a count beyond the slice finds nothing.
 pub fn remove<R: Named + Copy>(rows: &mut [R], count: usize, name: u16) -> Option<R>
-    ensures answer { result ≡ (if nat_le count (length rows.old) then named R.label name (take count rows.old) else None) }
-    ensures after { MatchOption result (rows.new ≡ rows.old) (λ _. take (count - 1) rows.new ≡ without R.label name (take count rows.old)) }
+    ensures answer { result ≡ cond (nat_le count (length rows.old)) (named R.label name (take count rows.old)) None }
+    ensures after { IfSome result (λ _. take (count - 1) rows.new ≡ without R.label name (take count rows.old)) }
+    ensures unknown { result ≡ None → rows.new ≡ rows.old }
     ensures spare { IfSome result (λ x. take count rows.new ≡ without R.label name (take count rows.old) ++ x ∷ []) }
     ensures rest { drop count rows.new ≡ drop count rows.old }
 {

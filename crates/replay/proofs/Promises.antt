@@ -31,7 +31,7 @@ use Rattle.replay.proofs.Afters.{after}
 use Rattle.replay.proofs.Shorts.{ask_short, held_short}
 use Rattle.replay.specs.declared.calls.Call.TheVariants as call
 use Rattle.replay.specs.Calls.{Ask, Said, answers, ask, held}
-use Rattle.replay.specs.Promise.{After, CallPromise, Promise, Told, WriteTold}
+use Rattle.replay.specs.Promise.{After, CallPromise, Promise, Promised, WriteAnswer}
 
 module _ (g : Setting) (fab : IsFabric g.network) where
   -- every call keeps a clean plan clean
@@ -53,30 +53,30 @@ module _ (g : Setting) (fab : IsFabric g.network) where
   held_keeps js (a ∷ rest) c = held_keeps (ask g js a).1 rest (ask_keeps js a c)
 
   -- a call on a clean plan is answered as promised
-  pub told : (js : Jobs) → Clean g js → (a : Ask) → Told g js a (ask g js a).0
-  told js c (call.OfferTask t) = ((offer_task g js t).0, refl, task_answer g js t c)
-  told js c (call.OfferMessage m) = ((offer_message g js m).0, refl, message_answer g fab js m c)
-  told js c (call.PlaceTask t) = ((place_task g js t).0, refl, task_placing g js t)
-  told js c (call.PlaceMessage m) = ((place_message g js m).0, refl, message_placing g js m)
-  told js c (call.DropTask n) = ((drop_task js n).0, refl, task_dropping js n)
-  told js c (call.DropMessage n) = ((drop_message js n).0, refl, message_dropping js n)
-  told js c (call.Load part) = ((load g js part).0, refl, load_told g fab js c part)
-  told js c (call.Slack n) = (slack g js n, refl, slack_told g fab js c n)
-  told js c (call.CoreHolder x n) = (core_holder g js x n, refl, holder_answer g fab js c (core x) n)
-  told js c (call.LinkHolder l n) = (link_holder g js l n, refl, holder_answer g fab js c (link l) n)
-  told js c (call.Write room) = (write js room, refl, go (too_long js room) refl)
+  pub answered : (js : Jobs) → Clean g js → (a : Ask) → Promised g js a (ask g js a).0
+  answered js c (call.OfferTask t) = ((offer_task g js t).0, refl, task_answer g js t c)
+  answered js c (call.OfferMessage m) = ((offer_message g js m).0, refl, message_answer g fab js m c)
+  answered js c (call.PlaceTask t) = ((place_task g js t).0, refl, task_placing g js t)
+  answered js c (call.PlaceMessage m) = ((place_message g js m).0, refl, message_placing g js m)
+  answered js c (call.DropTask n) = ((drop_task js n).0, refl, task_dropping js n)
+  answered js c (call.DropMessage n) = ((drop_message js n).0, refl, message_dropping js n)
+  answered js c (call.Load part) = ((load g js part).0, refl, load_told g fab js c part)
+  answered js c (call.Slack n) = (slack g js n, refl, slack_told g fab js c n)
+  answered js c (call.CoreHolder x n) = (core_holder g js x n, refl, holder_answer g fab js c (core x) n)
+  answered js c (call.LinkHolder l n) = (link_holder g js l n, refl, holder_answer g fab js c (link l) n)
+  answered js c (call.Write room) = (write js room, refl, go (too_long js room) refl)
     where
-      go : (b : Bool) → b ≡ too_long js room → WriteTold js room (if b then Err too_short else Ok (part_bytes js))
+      go : (b : Bool) → b ≡ too_long js room → WriteAnswer js room (if b then Err too_short else Ok (part_bytes js))
       go true e = grind (arith, nat_tests, e)
       go false e = (refl, grind (arith, nat_tests, e))
 
   -- each answer of a list is that of its call, after the calls before it, and so is what is held then
   calls : (js : Jobs) → Clean g js → (asks : List Ask) (i : ℕ) (a : Ask) → slice_get asks i ≡ Some a
-      → (r : Said) × (slice_get (answers g js asks) i ≡ Some r) × Told g (held g js (take i asks)) a r × After g (held g js (take i asks)) a r (held g js (take (suc i) asks))
+      → (r : Said) × (slice_get (answers g js asks) i ≡ Some r) × Promised g (held g js (take i asks)) a r × After g (held g js (take i asks)) a r (held g js (take (suc i) asks))
   calls js c [] i a e = cc
   calls js c (b ∷ rest) zero a e =
       let same : b ≡ a = cc in
-      ((ask g js a).0, ap (λ x. Some (ask g js x).0) same, told js c a, subst (λ x. After g js a (ask g js a).0 (ask g js x).1) (sym same) (after g js c a))
+      ((ask g js a).0, ap (λ x. Some (ask g js x).0) same, answered js c a, subst (λ x. After g js a (ask g js a).0 (ask g js x).1) (sym same) (after g js c a))
   calls js c (b ∷ rest) (suc i) a e = calls (ask g js b).1 (ask_keeps js b c) rest i a e
 
   -- the held jobs stay in ascending names and within their numbers
@@ -102,7 +102,7 @@ module _ (g : Setting) (fab : IsFabric g.network) where
       record {
         clean = ask_keeps js a c;
         canonical = ask_canonical js a ordered;
-        told = told js c a;
+        answered = answered js c a;
         left = after g js c a;
         short = λ here fits. ask_short g js a fits here;
         back = λ here fits. round_trip g fab (ask g js a).1 (ask_keeps js a c) (ask_canonical js a ordered) (ask_short g js a fits here);

@@ -6,7 +6,7 @@
 --   keeps_plan                  the answers that leave the plan as it is
 --   giving, all_said            the same answer with something made of what a write gives, and answers by the bytes that they own
 --   read_off, bytes_given, length_given    of a write: from a page, and what it tells
---   answer_told                 the number and values of what an answer refuses
+--   answer_told, new_refusals   the number and values of what an answer refuses, and of what calls answer on a new plan
 use Rattle.std.specs.Prelude.{ℕ, Bool, true, false, List, [], ◌∷◌, map, take, ◌⊎◌, Ok, Option, Vec, vec_items}
 use Rattle.std.proofs.Common.{inl, inr}
 use Rattle.std.specs.Borrow.{Bor}
@@ -134,3 +134,7 @@ answer_told (answer.Loaded r) = refusal_of (λ e. inr (load_told e)) r
 answer_told (answer.Slack r) = refusal_of (λ e. inl (drop_told e)) r
 answer_told (answer.Holder r) = refusal_of (λ e. inl (place_told e)) r
 answer_told (answer.Written r) = refusal_of (λ e. inl (buffer_told e)) r
+
+-- the same of what calls answer on a new plan
+abbrev pub new_refusals : Setting → List Lent → List (Option (Refusal ⊎ Told))
+new_refusals g calls = map answer_told (new_answers g calls)

@@ -1,5 +1,5 @@
 -- Meaning. The main promise, over every lawful network: of one call on any clean plan, and of every list of calls on a new one.
---   Told, After        what is promised of the answer to a call, and of what is held after it
+--   Promised, After        what is promised of the answer to a call, and of what is held after it
 --   Promise            what is promised of a list of calls
 use Rattle.std.specs.Prelude.{◌≡◌, ℕ, suc, ◌<◌, ◌≤◌, List, length, take, ℤ, Some, Ok, Err, Option, Result}
 use Rattle.std.specs.List.{slice_get}
@@ -17,7 +17,7 @@ use Rattle.jobs.specs.Jobs.{Jobs, Setting, nothing}
 use Rattle.jobs.specs.Open.{message_at, task_at}
 use Rattle.plan.specs.After.{Leaves, MessageLess, MessageMore, TaskLess, TaskMore}
 use Rattle.plan.specs.Loading.{load}
-use Rattle.plan.specs.Loads.{LoadLeft, LoadTold, load_tries}
+use Rattle.plan.specs.Loads.{LoadLeft, LoadAnswer, load_tries}
 use Rattle.plan.specs.Writing.{part_bytes}
 use Rattle.plan.specs.declared.fault.LoadFault.{LoadFault}
 use Rattle.plan.specs.Round.{LoadsBack}
@@ -26,7 +26,7 @@ use Rattle.promise.specs.Clean.{Clean}
 use Rattle.jobs.specs.Jobs.{In}
 use Rattle.promise.specs.Droppings.{MessageDropped, TaskDropped}
 use Rattle.promise.specs.Offers.{MessageAnswer, MessagePlacing, TaskAnswer, TaskPlacing}
-use Rattle.promise.specs.Questions.{CoreAnswer, LinkAnswer, SlackTold}
+use Rattle.promise.specs.Questions.{CoreAnswer, LinkAnswer, SlackAnswer}
 use Rattle.replay.specs.declared.calls.Answer.TheVariants as answer
 use Rattle.replay.specs.declared.calls.Call.TheVariants as call
 use Rattle.replay.specs.Calls.{Ask, Said, answers, ask, held}
@@ -35,23 +35,23 @@ use Rattle.replay.specs.Short.{ShortAsk}
 -- ---- answers
 
 -- a write gives the whole job part, which has the room, and is refused where it has not
-abbrev pub WriteTold : Jobs → ℕ → Result (List ℕ) BufferFault → Type 0
-WriteTold js room (Ok bytes) = (bytes ≡ part_bytes js) × (length bytes ≤ room)
-WriteTold js room (Err e) = room < length (part_bytes js)
+abbrev pub WriteAnswer : Jobs → ℕ → Result (List ℕ) BufferFault → Type 0
+WriteAnswer js room (Ok bytes) = (bytes ≡ part_bytes js) × (length bytes ≤ room)
+WriteAnswer js room (Err e) = room < length (part_bytes js)
 
 -- what is promised of the answer r to a call, with the jobs held before it
-abbrev pub Told : Setting → Jobs → Ask → Said → Type 0
-Told g js (call.OfferTask t) r = (x : Result (Unit {0}) TaskFault) × (r ≡ answer.TaskOffered x) × TaskAnswer g js t x
-Told g js (call.OfferMessage m) r = (x : Result (Unit {0}) MessageFault) × (r ≡ answer.MessageOffered x) × MessageAnswer g js m x
-Told g js (call.PlaceTask t) r = (x : Result ℕ (PlacingFault TaskFault)) × (r ≡ answer.TaskPlaced x) × TaskPlacing g js t x
-Told g js (call.PlaceMessage m) r = (x : Result ℕ (PlacingFault MessageFault)) × (r ≡ answer.MessagePlaced x) × MessagePlacing g js m x
-Told g js (call.DropTask n) r = (x : Result (Unit {0}) DropFault) × (r ≡ answer.Dropped x) × TaskDropped js n x
-Told g js (call.DropMessage n) r = (x : Result (Unit {0}) DropFault) × (r ≡ answer.Dropped x) × MessageDropped js n x
-Told g js (call.Load part) r = (x : Result Counts LoadFault) × (r ≡ answer.Loaded x) × LoadTold g js part x
-Told g js (call.Slack n) r = (x : Result ℤ DropFault) × (r ≡ answer.Slack x) × SlackTold g js n x
-Told g js (call.CoreHolder c n) r = (x : Result (Option (ℕ × ℕ)) PlaceFault) × (r ≡ answer.Holder x) × CoreAnswer g js c n x
-Told g js (call.LinkHolder l n) r = (x : Result (Option (ℕ × ℕ)) PlaceFault) × (r ≡ answer.Holder x) × LinkAnswer g js l n x
-Told g js (call.Write room) r = (x : Result (List ℕ) BufferFault) × (r ≡ answer.Written x) × WriteTold js room x
+abbrev pub Promised : Setting → Jobs → Ask → Said → Type 0
+Promised g js (call.OfferTask t) r = (x : Result (Unit {0}) TaskFault) × (r ≡ answer.TaskOffered x) × TaskAnswer g js t x
+Promised g js (call.OfferMessage m) r = (x : Result (Unit {0}) MessageFault) × (r ≡ answer.MessageOffered x) × MessageAnswer g js m x
+Promised g js (call.PlaceTask t) r = (x : Result ℕ (PlacingFault TaskFault)) × (r ≡ answer.TaskPlaced x) × TaskPlacing g js t x
+Promised g js (call.PlaceMessage m) r = (x : Result ℕ (PlacingFault MessageFault)) × (r ≡ answer.MessagePlaced x) × MessagePlacing g js m x
+Promised g js (call.DropTask n) r = (x : Result (Unit {0}) DropFault) × (r ≡ answer.Dropped x) × TaskDropped js n x
+Promised g js (call.DropMessage n) r = (x : Result (Unit {0}) DropFault) × (r ≡ answer.Dropped x) × MessageDropped js n x
+Promised g js (call.Load part) r = (x : Result Counts LoadFault) × (r ≡ answer.Loaded x) × LoadAnswer g js part x
+Promised g js (call.Slack n) r = (x : Result ℤ DropFault) × (r ≡ answer.Slack x) × SlackAnswer g js n x
+Promised g js (call.CoreHolder c n) r = (x : Result (Option (ℕ × ℕ)) PlaceFault) × (r ≡ answer.Holder x) × CoreAnswer g js c n x
+Promised g js (call.LinkHolder l n) r = (x : Result (Option (ℕ × ℕ)) PlaceFault) × (r ≡ answer.Holder x) × LinkAnswer g js l n x
+Promised g js (call.Write room) r = (x : Result (List ℕ) BufferFault) × (r ≡ answer.Written x) × WriteAnswer js room x
 
 -- ---- what is held after
 
@@ -74,7 +74,7 @@ After g js question r after = after ≡ js
 pub record CallPromise (g : Setting) (js : Jobs) (a : Ask) : Type 0 where
   pub clean : Clean g (ask g js a).1
   pub canonical : Canonical (ask g js a).1
-  pub told : Told g js a (ask g js a).0
+  pub answered : Promised g js a (ask g js a).0
   pub left : After g js a (ask g js a).0 (ask g js a).1
   pub short : ShortNames js → ShortAsk a → ShortNames (ask g js a).1
   pub back : ShortNames js → ShortAsk a → LoadsBack g (ask g js a).1
@@ -92,7 +92,7 @@ EachCall = (g : Setting) → IsFabric g.network → (js : Jobs) → Clean g js �
 pub record Promise (g : Setting) (asks : List Ask) : Type 0 where
   pub clean : Clean g (held g nothing asks)
   pub calls : (i : ℕ) (a : Ask) → slice_get asks i ≡ Some a
-      → (r : Said) × (slice_get (answers g nothing asks) i ≡ Some r) × Told g (held g nothing (take i asks)) a r
+      → (r : Said) × (slice_get (answers g nothing asks) i ≡ Some r) × Promised g (held g nothing (take i asks)) a r
       × After g (held g nothing (take i asks)) a r (held g nothing (take (suc i) asks))
   pub canonical : Canonical (held g nothing asks)
   pub back : ((a : Ask) → In a asks → ShortAsk a) → LoadsBack g (held g nothing asks)

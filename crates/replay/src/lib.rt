@@ -2,13 +2,13 @@
 #![tactic(auto)]
 
 ghost use Rattle.jobs.specs.Jobs.{nothing, created_on};
-ghost use Rattle.plan.specs.Held.{jobs, setting};
+ghost use Rattle.plan.specs.Held.{SameSetting, jobs, setting};
 ghost use Rattle.plan.specs.Round.{LoadsBack};
 ghost use Rattle.promise.specs.Canonical.{Canonical, ShortNames};
 ghost use Rattle.promise.specs.Clean.{Clean};
 ghost use Rattle.refusals.specs.Written.{written};
-ghost use Rattle.replay.specs.Calls.{all_said, answer_told, ask, asked, bytes_given, giving, held, keeps_plan, new_answers, read_off};
-ghost use Rattle.replay.specs.Promise.{After, EachCall, MainPromise, Promise, Told};
+ghost use Rattle.replay.specs.Calls.{all_said, answer_told, ask, asked, bytes_given, giving, held, keeps_plan, new_answers, new_refusals, read_off};
+ghost use Rattle.replay.specs.Promise.{After, EachCall, MainPromise, Promise, Promised};
 ghost use Rattle.std.specs.Prelude.{◌≡◌, ℕ, true, [], ◌∷◌, ◌++◌, length, map, take, vec_items, IfOk};
 
 use fabric::Fabric;
@@ -31,7 +31,7 @@ fn dispatch<F: Fabric>(
     ensures answer { result ≡ giving length (ask (setting plan.old) (jobs plan.old) (asked call.now)).0 }
     ensures page { page.new ≡ written page.old 0 (bytes_given (ask (setting plan.old) (jobs plan.old) (asked call.now)).0) }
     ensures after { jobs plan.new ≡ (ask (setting plan.old) (jobs plan.old) (asked call.now)).1 }
-    ensures fabric { plan.new.fabric ≡ plan.old.fabric }
+    ensures alike { SameSetting plan.old plan.new }
     ensures unchanged { keeps_plan result ≡ true → plan.new ≡ plan.old }
 {
     match *call {
@@ -59,10 +59,10 @@ pub fn step<F: Fabric>(
     ensures answer { result ≡ giving length (ask (setting plan.old) (jobs plan.old) (asked call.now)).0 }
     ensures page { page.new ≡ written page.old 0 (bytes_given (ask (setting plan.old) (jobs plan.old) (asked call.now)).0) }
     ensures after { jobs plan.new ≡ (ask (setting plan.old) (jobs plan.old) (asked call.now)).1 }
-    ensures fabric { plan.new.fabric ≡ plan.old.fabric }
+    ensures alike { SameSetting plan.old plan.new }
     ensures unchanged { keeps_plan result ≡ true → plan.new ≡ plan.old }
     ensures keeps { Clean (setting plan.new) (jobs plan.new) }
-    ensures promise { Told (setting plan.old) (jobs plan.old) (asked call.now) (read_off page.new result) }
+    ensures promise { Promised (setting plan.old) (jobs plan.old) (asked call.now) (read_off page.new result) }
     ensures numbers { answer_told result ≡ answer_told (ask (setting plan.old) (jobs plan.old) (asked call.now)).0 }
     ensures left { After (setting plan.old) (jobs plan.old) (asked call.now) (read_off page.new result) (jobs plan.new) }
     ensures canonical { Canonical (jobs plan.new) }
@@ -107,7 +107,7 @@ pub fn replay<'f, F: Fabric>(
     calls: &[Call<&[u8]>],
 ) -> (Plan<'f, F>, Result<Vec<Answer<Vec<u8>>>, AllocError>)
     ensures answers { IfOk result.1 (λ v. all_said v.items ≡ new_answers (created_on (F.meaning fabric.now)) calls.now) }
-    ensures numbers { IfOk result.1 (λ v. map answer_told v.items ≡ map answer_told (new_answers (created_on (F.meaning fabric.now)) calls.now)) }
+    ensures numbers { IfOk result.1 (λ v. map answer_told v.items ≡ new_refusals (created_on (F.meaning fabric.now)) calls.now) }
     ensures held { jobs result.0 ≡ held (created_on (F.meaning fabric.now)) nothing (map asked calls.now) }
     ensures fabric { setting result.0 ≡ created_on (F.meaning fabric.now) }
     ensures clean { Clean (created_on (F.meaning fabric.now)) (jobs result.0) }

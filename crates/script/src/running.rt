@@ -1,5 +1,5 @@
 //! Running the lines of a script, each on the plan in hand.
-ghost use Rattle.plan.specs.Held.{jobs, setting};
+ghost use Rattle.plan.specs.Held.{SameSetting, jobs, setting};
 ghost use Rattle.replay.specs.Calls.{ask, asked};
 ghost use Rattle.script.specs.Fabrics.{made_network};
 ghost use Rattle.script.specs.Readings.{read_line, reading};
@@ -27,7 +27,7 @@ fn answer<F: Fabric>(
     page: &mut [u8; LONGEST_PART],
     call: &Call<&[u8]>,
 ) -> Result<Reply, AllocError>
-    ensures fabric { plan.new.fabric ≡ plan.old.fabric }
+    ensures alike { SameSetting plan.old plan.new }
     ensures held { jobs plan.new ≡ (ask (setting plan.old) (jobs plan.old) (asked call.now)).1 }
     ensures reply { IfOk result (λ r. reply_text r ≡ answer_text (ask (setting plan.old) (jobs plan.old) (asked call.now)).0) }
 {
@@ -42,7 +42,7 @@ fn reply_of<'l, F: Fabric>(
     page: &mut [u8; LONGEST_PART],
     line: &'l Line,
 ) -> Result<(Option<Reply>, Option<Made<'l>>), AllocError>
-    ensures fabric { plan.new.fabric ≡ plan.old.fabric }
+    ensures alike { SameSetting plan.old plan.new }
     ensures reply { IfOk result (λ r. option_map reply_text r.0 ≡ reply_to (session plan.old) (reading line.now)) }
     ensures left { IfOk result (λ r. next_session (session plan.new) r.1 ≡ after_line (session plan.old) (reading line.now)) }
 {

@@ -11,7 +11,7 @@ use Rattle.plan.specs.declared.fault.LoadFault.{LoadFault}
 use Rattle.plan.proofs.Loads.{load_keeps}
 use Rattle.plan.proofs.Stands.{clean_nothing}
 use Rattle.plan.proofs.Tries.{load_told}
-use Rattle.plan.specs.Loads.{LoadTold}
+use Rattle.plan.specs.Loads.{LoadAnswer}
 use Rattle.verdict.specs.Judged.{FileClean, FileFabric, FileRefused}
 use Rattle.verdict.specs.Verdict.{file_part, judged_on, on_part, verdict_of}
 use Rattle.verdict.specs.declared.fault.FileFault.{FileFault}
@@ -87,5 +87,5 @@ file_refused file e is =
       net = l.net;
       part = l.part;
       fabric = l.fabric;
-      told = subst (LoadTold g nothing l.part) l.is (load_told g l.fabric.lawful nothing (clean_nothing g) l.part);
+      load = subst (LoadAnswer g nothing l.part) l.is (load_told g l.fabric.lawful nothing (clean_nothing g) l.part);
     }

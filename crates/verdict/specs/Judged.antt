@@ -12,7 +12,7 @@ use Rattle.plan.specs.Held.{counts_of}
 use Rattle.plan.specs.Loading.{job_part}
 use Rattle.plan.specs.declared.fault.LoadFault.{LoadFault}
 use Rattle.promise.specs.Clean.{Clean}
-use Rattle.plan.specs.Loads.{LoadTold}
+use Rattle.plan.specs.Loads.{LoadAnswer}
 use Rattle.verdict.specs.Verdict.{file_part}
 
 -- the network and the job part are the file's, and the network keeps the laws, with routes of at most 64 links
@@ -44,4 +44,4 @@ pub record FileRefused (file : List ℕ) (e : LoadFault) : Type 0 where
   pub net : Network
   pub part : List ℕ
   pub fabric : FileFabric file net part
-  pub told : LoadTold (created_on net) nothing part (Err e)
+  pub load : LoadAnswer (created_on net) nothing part (Err e)

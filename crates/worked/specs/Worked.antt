@@ -1,4 +1,4 @@
--- Plans that were worked by hand, with the answers found there. Assumes nothing.
+-- Meaning. Plans that were worked by hand, with the answers found there.
 use Rattle.std.specs.Prelude.{◌≡◌, ℕ, List, [], ◌∷◌, ℤ, pos, negsuc, Some, Ok, Err, codes}
 use Rattle.fabric.specs.Grid.{grid}
 use Rattle.jobs.specs.declared.fault.TaskFault.TheVariants as task_fault

@@ -5,7 +5,7 @@ ghost use Rattle.plan.specs.After.{Leaves};
 ghost use Rattle.plan.specs.Follows.{Follows};
 ghost use Rattle.plan.specs.Held.{jobs, setting};
 ghost use Rattle.plan.specs.Loading.{load};
-ghost use Rattle.plan.specs.Loads.{JobAnswer, JobMore, LoadLeft, LoadTold, load_tries};
+ghost use Rattle.plan.specs.Loads.{JobAnswer, JobMore, LoadLeft, LoadAnswer, load_tries};
 ghost use Rattle.plan.specs.Told.{load_told};
 ghost use Rattle.plan.specs.declared.fault.LayoutFault.{LayoutFault};
 ghost use Rattle.plan.specs.declared.fault.LoadFault.TheVariants.{Layout};
@@ -40,7 +40,7 @@ impl<'f, F: Fabric> Plan<'f, F> {
     pub fn load(&mut self, part: &[u8]) -> Result<Counts, LoadFault>
         ensures follows { Follows self.old self.new result load_told (load (setting self.old) (jobs self.old) part.now) }
         ensures refused { (e : LayoutFault) → result ≡ Err (Layout e) → self.new ≡ self.old }
-        ensures promise { LoadTold (setting self.old) (jobs self.old) part.now result }
+        ensures promise { LoadAnswer (setting self.old) (jobs self.old) part.now result }
         ensures left { LoadLeft (load_tries (setting self.old) (jobs self.old) part.now) (jobs self.old) (jobs self.new) }
         ensures clean { Clean (setting self.new) (jobs self.new) }
     {

@@ -1,12 +1,12 @@
-//! New plans, and the offers of tasks and messages.
+//! Offers of tasks and messages.
 ghost use Rattle.jobs.specs.Checks.{admitted_task};
-ghost use Rattle.jobs.specs.Jobs.{nothing, with_message, with_task};
+ghost use Rattle.jobs.specs.Jobs.{with_message, with_task};
 ghost use Rattle.jobs.specs.Numbers.{message_told, task_told};
 ghost use Rattle.jobs.specs.Rules.{message_refusal, offer_message, offer_task, task_refusal};
 ghost use Rattle.plan.specs.After.{Leaves, MessageMore, TaskMore};
 ghost use Rattle.plan.specs.Checked.{MessageAdmitted, PacketsChecked};
 ghost use Rattle.plan.specs.Follows.{Follows};
-ghost use Rattle.plan.specs.Held.{jobs, setting};
+ghost use Rattle.plan.specs.Held.{SameSetting, jobs, setting};
 ghost use Rattle.promise.specs.Clean.{Clean};
 ghost use Rattle.promise.specs.Offers.{MessageAnswer, TaskAnswer};
 ghost use Rattle.refusals.specs.Told.{checked};
@@ -16,13 +16,11 @@ use super::Plan;
 use fabric::Fabric;
 use jobs::fault::{MessageFault, TaskFault};
 use jobs::message::late_by;
-use jobs::routing::Routing;
 use jobs::task::first_task_meeting;
 use jobs::way::{Admitted, Way};
 use jobs::{message, task};
 use records::record::{Message, Task};
 use records::search::index_of;
-use records::tables::Table;
 
 // A name fits in two bytes, which is known only of a parameter.
 fn name_fits(name: u16)
@@ -30,29 +28,6 @@ fn name_fits(name: u16)
 {}
 
 impl<'f, F: Fabric> Plan<'f, F> {
-    /// A plan over a fabric that holds nothing.
-    pub fn new(fabric: &'f F) -> Self
-        ensures fabric { result.fabric ≡ fabric.entry }
-        ensures empty { jobs result ≡ nothing }
-    {
-        Plan {
-            fabric,
-            tasks: Table::new([Task::EMPTY; 64]),
-            messages: Table::new([Message::EMPTY; 128]),
-        }
-    }
-
-    // What packets go by.
-    pub(super) fn routing(&self) -> Routing<'_, F>
-        ensures fabric { result.fabric ≡ self.now.fabric }
-        ensures tasks { result.tasks.now ≡ (jobs self.now).tasks }
-    {
-        Routing {
-            fabric: self.fabric,
-            tasks: self.tasks.held(),
-        }
-    }
-
     // The checks of a task that come before meetings.
     pub(super) fn admitted_task(&self, t: &Task) -> Result<(), TaskFault>
         ensures { result ≡ admitted_task (setting self.now).network.nodes (jobs self.now) t.now }
@@ -88,7 +63,7 @@ impl<'f, F: Fabric> Plan<'f, F> {
     pub(super) fn hold_task(&mut self, t: Task)
         requires { task_refusal (setting self.old).network.nodes (jobs self.old) t ≡ None }
         ensures after { jobs self.new ≡ with_task (jobs self.old) t }
-        ensures fabric { self.new.fabric ≡ self.old.fabric }
+        ensures alike { SameSetting self.old self.new }
     {
         name_fits(t.name);
         let _ = self.tasks.insert(t);
@@ -150,7 +125,7 @@ impl<'f, F: Fabric> Plan<'f, F> {
     pub(super) fn hold_message(&mut self, m: Message)
         requires { message_refusal (setting self.old) (jobs self.old) m ≡ None }
         ensures after { jobs self.new ≡ with_message (jobs self.old) m }
-        ensures fabric { self.new.fabric ≡ self.old.fabric }
+        ensures alike { SameSetting self.old self.new }
     {
         name_fits(m.name);
         let _ = self.messages.insert(m);

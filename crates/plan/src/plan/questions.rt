@@ -4,7 +4,7 @@ ghost use Rattle.jobs.specs.Numbers.{drop_told, place_told};
 ghost use Rattle.jobs.specs.Slacks.{slack};
 ghost use Rattle.plan.specs.Follows.{Says};
 ghost use Rattle.plan.specs.Held.{jobs, setting};
-ghost use Rattle.promise.specs.Questions.{CoreAnswer, LinkAnswer, SlackTold};
+ghost use Rattle.promise.specs.Questions.{CoreAnswer, LinkAnswer, SlackAnswer};
 
 use super::Plan;
 use fabric::Fabric;
@@ -17,7 +17,7 @@ impl<'f, F: Fabric> Plan<'f, F> {
     /// The least slack over all packets of the held message of this name. Refused with 21 where none has it.
     pub fn slack(&self, name: u16) -> Result<i64, DropFault>
         ensures follows { Says result drop_told (slack (setting self.now) (jobs self.now) name) }
-        ensures promise { SlackTold (setting self.now) (jobs self.now) name result }
+        ensures promise { SlackAnswer (setting self.now) (jobs self.now) name result }
     {
         let m = named(self.messages.held(), name).ok_or(DropFault::Unknown)?;
         self.routing().slack_of(&m).ok_or(DropFault::Unknown)

@@ -55,7 +55,7 @@ loop-call-preserved g c =
     let moved = ran ∙ ap (λ n. (ask n js (asked (get_or calls i d))).1) same in
     let read = ap (read_off c.step-told.new.page) c.step-told.ensures.answer ∙ read_back _ c.loop-call.page c.step-told.ensures.page in
     let told = read ∙ ap (λ n. (ask n js (asked (get_or calls i d))).0) same in (
-      ap (λ f. created_on (meaning f.now)) c.step-told.ensures.fabric ∙ same,
+      ap (λ f. created_on (meaning f.now)) c.step-told.ensures.alike ∙ same,
       elim c.match-answers.branch [
         | in-Ok w ↦
             let before = subst (Onward s js calls i all) w.in-Ok.is c.loop-call.invariant.1 in

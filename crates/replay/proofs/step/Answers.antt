@@ -3,10 +3,10 @@ use Rattle.fabric.specs.Network.{is_fabric}
 use Rattle.plan.specs.Held.{jobs, setting}
 use Rattle.plan.proofs.Stands.{back_of, clean_of}
 use Rattle.replay.specs.Calls.{answer_told, ask, asked, read_off}
-use Rattle.replay.specs.Promise.{After, Told}
+use Rattle.replay.specs.Promise.{After, Promised}
 use Rattle.replay.proofs.Afters.{after}
 use Rattle.replay.proofs.Pages.{read_back, told_same}
-use Rattle.replay.proofs.Promises.{told}
+use Rattle.replay.proofs.Promises.{answered}
 use Rattle.replay.proofs.step.Goals as goal
 
 pub returns : goal.returns
@@ -21,10 +21,10 @@ returns g c =
       answer = c.dispatch.ensures.answer;
       page = c.dispatch.ensures.page;
       after = c.dispatch.ensures.after;
-      fabric = c.dispatch.ensures.fabric;
+      alike = c.dispatch.ensures.alike;
       unchanged = c.dispatch.ensures.unchanged;
       keeps = clean_of after_it;
-      promise = subst (Told s (jobs p) a) (sym read) (told s (is_fabric g.F.Fabric.bounded (g.F.Fabric.lawful p.fabric.now)) (jobs p) clean a);
+      promise = subst (Promised s (jobs p) a) (sym read) (answered s (is_fabric g.F.Fabric.bounded (g.F.Fabric.lawful p.fabric.now)) (jobs p) clean a);
       numbers = ap answer_told c.dispatch.ensures.answer ∙ told_same length (ask s (jobs p) a).0;
       left = subst (λ r. After s (jobs p) a r (jobs after_it)) (sym read)
           (subst (After s (jobs p) a (ask s (jobs p) a).0) (sym c.dispatch.ensures.after) (after s (jobs p) clean a));

@@ -47,7 +47,7 @@ returns-in_err-ok_or g c =
     let answer : r ≡ rule.0 = search (rules, index_named) in
     let after : tabled p.tasks c.remove.new.self ≡ rule.1 = search (rules, index_named) in
     record {
-      follows = record { answer = answer; numbers = ap (refusal_of drop_told) answer; after = after; fabric = refl };
+      follows = record { answer = answer; numbers = ap (refusal_of drop_told) answer; after = after; alike = refl };
       refused = λ _. same;
       promise = message_dropped_of p n r answer;
       left = left_of rule r (jobs p) (tabled p.tasks c.remove.new.self) (λ u. MessageLess (jobs p) n) (message_drop_left (jobs p) n (clean_of p).made.message_names) answer after;
@@ -62,7 +62,7 @@ returns g c =
     let answer : Ok tt ≡ rule.0 = search (rules, index_named) in
     let after : tabled p.tasks c.remove.new.self ≡ rule.1 = search (rules, index_named) in
     record {
-      follows = record { answer = answer; numbers = ap (refusal_of drop_told) answer; after = after; fabric = refl };
+      follows = record { answer = answer; numbers = ap (refusal_of drop_told) answer; after = after; alike = refl };
       refused = λ e. absurd cc;
       promise = message_dropped_of p n (Ok tt) answer;
       left = left_of rule (Ok tt) (jobs p) (tabled p.tasks c.remove.new.self) (λ u. MessageLess (jobs p) n) (message_drop_left (jobs p) n (clean_of p).made.message_names) answer after;

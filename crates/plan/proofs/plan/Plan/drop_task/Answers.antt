@@ -85,7 +85,7 @@ returns g c =
     let answer : Ok tt ≡ rule.0 = search rules in
     let after : tabled c.remove.new.self p.messages ≡ rule.1 = search rules in
     record {
-      follows = record { answer = answer; numbers = ap (refusal_of drop_told) answer; after = after; fabric = refl };
+      follows = record { answer = answer; numbers = ap (refusal_of drop_told) answer; after = after; alike = refl };
       refused = λ e. absurd cc;
       promise = task_dropped_of p n (Ok tt) answer;
       left = left_of rule (Ok tt) (jobs p) (tabled c.remove.new.self p.messages) (λ u. TaskLess (jobs p) n) (task_left p n) answer after;

@@ -27,7 +27,7 @@ loop-at-preserved g c =
     let lt : i < length part.tasks.bytes.now / 16 + length part.messages.bytes.now / 16 = omega (arith, c.len-at-end.ensures, c.loop-at-test.true) in
     elim c.match-job.branch [
       | in-Some+in_ok-map_err w ↦ (
-        ap (λ p. p.fabric) w.self-is ∙ w.offer.ensures.follows.fabric ∙ c.loop-at.invariant.0,
+        ap (λ p. p.fabric) w.self-is ∙ w.offer.ensures.follows.alike ∙ c.loop-at.invariant.0,
         λ ts ms a b.
             let at = job_read part.tasks.bytes.now part.messages.bytes.now ts ms a b i lt w.in-Some.job w.in-Some.ensures in
             let taken : Ok w.in_ok-map_err.field-0 ≡ w.offer.result = search rules in
@@ -88,7 +88,7 @@ returns-in_err-map_err g c =
     told ∙ ap (λ n. Err (Offer n fault)) (place ∙ ap (λ n. section_place n i) (sym (section_length task_of 16 part.tasks.bytes.now ts laid.task_records))) ∙ sym (ap (λ r. r.0) whole) in
     let after : jobs c.offer.new.self ≡ (load s (jobs p) c.args.part.now).1 = sym (ap (λ r. r.1) whole) in
     record {
-      follows = follows_of (load s (jobs p) c.args.part.now) c.from_residual-in_err-map_err.result p c.offer.new.self load_told answer after (c.offer.ensures.follows.fabric ∙ c.loop-at.invariant.0);
+      follows = follows_of (load s (jobs p) c.args.part.now) c.from_residual-in_err-map_err.result p c.offer.new.self load_told answer after (c.offer.ensures.follows.alike ∙ c.loop-at.invariant.0);
       refused = λ e is. let no : ◌≡◌ {A = Result Counts LoadFault} (Err (Offer c.in_err-map_err.field-0.0.0 fault)) (Err (Layout e)) = sym told ∙ is in absurd cc;
       promise = load_told_of p c.args.part.now _ answer;
       left = load_left_of p c.args.part.now _ after;

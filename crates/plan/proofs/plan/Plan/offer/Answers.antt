@@ -26,7 +26,7 @@ returns-in-Task g c =
     told ∙ ap (result_map_both (λ u. u) job_fault.Task) c.offer_task.ensures.follows.answer ∙ sym (ap (λ r. r.0) same) in
     let after : jobs c.offer_task.new.self ≡ (offer s (jobs p) c.args.job).1 = c.offer_task.ensures.follows.after ∙ sym (ap (λ r. r.1) same) in
     record {
-      follows = follows_of (offer s (jobs p) c.args.job) c.map_err.result p c.offer_task.new.self job_told answer after c.offer_task.ensures.follows.fabric;
+      follows = follows_of (offer s (jobs p) c.args.job) c.map_err.result p c.offer_task.new.self job_told answer after c.offer_task.ensures.follows.alike;
       refused = λ e. c.offer_task.ensures.refused (still_refused job_fault.Task c.offer_task.result (ap is_ok (sym told) ∙ e));
       promise = subst (λ x. JobAnswer s (jobs p) x c.map_err.result) (sym c.in-Task.is) (c.offer_task.result, told, c.offer_task.ensures.promise);
       left = left_of (offer s (jobs p) c.args.job) c.map_err.result (jobs p) (jobs c.offer_task.new.self) (λ u. JobMore (jobs p) c.args.job) (job_left s (jobs p) c.args.job) answer after;
@@ -46,7 +46,7 @@ returns-in-Message g c =
     told ∙ ap (result_map_both (λ u. u) job_fault.Message) c.offer_message.ensures.follows.answer ∙ sym (ap (λ r. r.0) same) in
     let after : jobs c.offer_message.new.self ≡ (offer s (jobs p) c.args.job).1 = c.offer_message.ensures.follows.after ∙ sym (ap (λ r. r.1) same) in
     record {
-      follows = follows_of (offer s (jobs p) c.args.job) r p c.offer_message.new.self job_told answer after c.offer_message.ensures.follows.fabric;
+      follows = follows_of (offer s (jobs p) c.args.job) r p c.offer_message.new.self job_told answer after c.offer_message.ensures.follows.alike;
       refused = λ e. c.offer_message.ensures.refused (still_refused job_fault.Message c.offer_message.result (ap is_ok (sym told) ∙ e));
       promise = subst (λ x. JobAnswer s (jobs p) x r) (sym c.in-Message.is) (c.offer_message.result, told, c.offer_message.ensures.promise);
       left = left_of (offer s (jobs p) c.args.job) r (jobs p) (jobs c.offer_message.new.self) (λ u. JobMore (jobs p) c.args.job) (job_left s (jobs p) c.args.job) answer after;

@@ -32,7 +32,7 @@ returns g c =
     let answer : Ok tt ≡ rule.0 = search rules in
     let after : jobs q ≡ rule.1 = search rules in
     record {
-      follows = follows_of rule (Ok tt) p q message_told answer after c.hold_message.ensures.fabric;
+      follows = follows_of rule (Ok tt) p q message_told answer after c.hold_message.ensures.alike;
       refused = λ e. absurd cc;
       promise = message_told_of p m (Ok tt) answer;
       left = left_of rule (Ok tt) (jobs p) (jobs q) (λ u. MessageMore (jobs p) m) (message_left (setting p) (jobs p) m) answer after;

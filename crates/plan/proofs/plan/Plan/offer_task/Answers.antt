@@ -34,7 +34,7 @@ returns g c =
     let answer : Ok tt ≡ rule.0 = search rules in
     let after : jobs q ≡ rule.1 = search rules in
     record {
-      follows = follows_of rule (Ok tt) p q task_told answer after c.hold_task.ensures.fabric;
+      follows = follows_of rule (Ok tt) p q task_told answer after c.hold_task.ensures.alike;
       refused = λ e. absurd cc;
       promise = task_told_of p t (Ok tt) answer;
       left = left_of rule (Ok tt) (jobs p) (jobs q) (λ u. TaskMore (jobs p) t) (task_left (setting p) (jobs p) t) answer after;

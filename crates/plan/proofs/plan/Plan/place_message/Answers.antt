@@ -44,7 +44,7 @@ returns g c =
     let answer : r ≡ rule.0 = search rules in
     let after : jobs q ≡ rule.1 = search rules in
     record {
-      follows = follows_of rule r p q (placing_told message_told) answer after c.hold_message.ensures.fabric;
+      follows = follows_of rule r p q (placing_told message_told) answer after c.hold_message.ensures.alike;
       refused = λ e. absurd cc;
       promise = message_placing_of p m r answer;
       left = left_of rule r (jobs p) (jobs q) (λ v. MessageMore (jobs p) (message_at m v)) (message_place_left (setting p) (jobs p) m) answer after;

@@ -44,7 +44,7 @@ returns g c =
     let answer : r ≡ rule.0 = search rules in
     let after : jobs q ≡ rule.1 = search rules in
     record {
-      follows = follows_of rule r p q (placing_told task_told) answer after c.hold_task.ensures.fabric;
+      follows = follows_of rule r p q (placing_told task_told) answer after c.hold_task.ensures.alike;
       refused = λ e. absurd cc;
       promise = task_placing_of p t r answer;
       left = left_of rule r (jobs p) (jobs q) (λ v. TaskMore (jobs p) (task_at t v)) (task_place_left (setting p) (jobs p) t) answer after;
