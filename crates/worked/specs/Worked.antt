@@ -1,9 +1,10 @@
 -- Meaning. Plans that were worked by hand, with the answers found there.
-use Rattle.std.specs.Prelude.{◌≡◌, ℕ, List, [], ◌∷◌, ℤ, pos, negsuc, Some, Ok, Err, codes}
+use Rattle.std.specs.Prelude.{◌≡◌, ℕ, List, [], ◌∷◌, ◌++◌, ℤ, pos, negsuc, Some, None, Ok, Err, codes}
 use Rattle.fabric.specs.Grid.{grid}
 use Rattle.jobs.specs.declared.fault.TaskFault.TheVariants as task_fault
 use Rattle.jobs.specs.declared.fault.MessageFault.TheVariants as message_fault
 use Rattle.jobs.specs.declared.fault.PlacingFault.TheVariants as placing
+use Rattle.jobs.specs.declared.fault.DropFault.TheVariants as drop_fault
 use Rattle.jobs.specs.Jobs.{Setting, created_on, nothing}
 use Rattle.jobs.specs.Places.{core, link}
 use Rattle.plan.specs.declared.fault.LoadFault.TheVariants as load_fault
@@ -74,6 +75,15 @@ written bytes = answer.Written (Ok bytes)
 abbrev pub no_room : Said
 no_room = answer.Written (Err too_short)
 
+abbrev pub has : (name run : ℕ) → Said
+has n k = answer.Holder (Ok (Some (n, k)))
+
+abbrev pub free : Said
+free = answer.Holder (Ok None)
+
+abbrev pub dropped : Said
+dropped = answer.Dropped (Ok tt)
+
 -- the job part of two tasks on two nodes and a message between them with a delay
 abbrev pub two_nodes : ℕ → List ℕ
 two_nodes delay =
@@ -86,6 +96,13 @@ two_nodes delay =
 -- the whole file of it, a mesh of 2 by 1 with hop delay 3
 abbrev pub two_nodes_file : ℕ → List ℕ
 two_nodes_file delay = 1 ∷ 1 ∷ 2 ∷ 1 ∷ 3 ∷ 0 ∷ 0 ∷ 0 ∷ 0 ∷ 0 ∷ two_nodes delay
+
+-- on 3 by 3 nodes: tasks on nodes 0, 5, 1 and 2, and a message from the first to the second, over the links 0, 4 and 10
+abbrev pub three_links : List Ask
+three_links = task 1 0 20 0 4 ∷ task 2 5 20 15 5 ∷ task 3 1 20 0 5 ∷ task 4 2 20 0 9 ∷ message 1 1 2 0 0 2 ∷ []
+
+abbrev pub three_taken : List Said
+three_taken = task_taken ∷ task_taken ∷ task_taken ∷ task_taken ∷ message_taken ∷ []
 
 -- the cases
 abbrev pub worked : List Case
@@ -118,6 +135,14 @@ worked =
     ∷ calling (mesh 2 1 3) (call.Load (two_nodes 0) ∷ message 2 1 2 0 1 2 ∷ open_message 2 1 2 0 2 ∷ []) (all_loaded 2 1 ∷ message_meets 5 1 0 ∷ answer.MessagePlaced (Ok 2) ∷ [])
     -- to a faster reader the least slack is not that of packet 0, and by kind 1 there is a period more
     ∷ calling (mesh 2 1 3) (task 1 0 20 0 4 ∷ task 2 1 8 5 1 ∷ message 1 1 2 0 0 2 ∷ message 1 1 2 1 0 2 ∷ call.Slack 1 ∷ []) (task_taken ∷ task_taken ∷ late (negsuc 7) ∷ message_taken ∷ answer.Slack (Ok (pos 12)) ∷ [])
+    -- on three links with delay 2 a message takes each 2 instants after the one before: others meet it at 6 on the second and at 9 on the third
+    ∷ calling (mesh 3 3 2) (three_links ++ message 2 3 4 1 0 2 ∷ message 3 4 2 1 0 2 ∷ []) (three_taken ++ message_meets 6 1 4 ∷ message_meets 9 1 10 ∷ [])
+    -- who has a core or a link, by the run or packet that has it; after its width it is free
+    ∷ calling (mesh 3 3 2) (three_links ++ call.LinkHolder 10 29 ∷ call.LinkHolder 10 30 ∷ call.CoreHolder 0 23 ∷ call.CoreHolder 0 24 ∷ [])
+    (three_taken ++ has 1 1 ∷ free ∷ has 1 1 ∷ free ∷ [])
+    -- a task whose message is held is not dropped, and is once the message is
+    ∷ calling (mesh 3 3 2) (three_links ++ call.DropTask 1 ∷ call.DropMessage 1 ∷ call.DropTask 1 ∷ call.DropTask 1 ∷ [])
+    (three_taken ++ answer.Dropped (Err drop_fault.InUse) ∷ dropped ∷ dropped ∷ answer.Dropped (Err drop_fault.Unknown) ∷ [])
     ∷ []
 
 -- the definitions give every case

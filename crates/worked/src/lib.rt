@@ -1,9 +1,11 @@
-// Plans worked by hand, shown of the definitions that the library's contracts cite.
+//! Plans worked by hand, shown of the definitions that the library's contracts cite.
 #![tactic(auto)]
 
+ghost use Rattle.worked.specs.Unsafe.{UnsafePlans};
 ghost use Rattle.worked.specs.Worked.{Worked};
 
-// The definitions give the answers that were found by hand.
+/// The definitions give the answers that were found by hand, and call unsafe what was found to be so.
 pub fn worked_plans_stand()
     ensures plans { Worked }
+    ensures unsafe_plans { UnsafePlans }
 {}

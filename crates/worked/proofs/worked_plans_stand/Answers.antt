@@ -5,12 +5,13 @@ use Rattle.holds.specs.Search.{first_from}
 use Rattle.holds.specs.Span.{busy, gap}
 use Rattle.std.specs.Fmt.{digits}
 use Rattle.worked.specs.Worked.{Worked}
+use Rattle.worked.proofs.Unsafe.{unsafe_plans}
 use Rattle.worked.proofs.worked_plans_stand.Goals as goal
 
 -- every case by computing it
 plans : Worked
 unfolding first euclid gcd first_from busy gap digits
-plans = (refl, (refl, (refl, (refl, (refl, (refl, (refl, (refl, (refl, (refl, (refl, (refl, (refl, (refl, (refl, (refl, (refl, (refl, (refl, tt)))))))))))))))))))
+plans = (refl, (refl, (refl, (refl, (refl, (refl, (refl, (refl, (refl, (refl, (refl, (refl, (refl, (refl, (refl, (refl, (refl, (refl, (refl, (refl, (refl, (refl, tt))))))))))))))))))))))
 
 pub returns : goal.returns
-returns c = record { plans = plans }
+returns c = record { plans = plans; unsafe_plans = unsafe_plans }
