@@ -117,17 +117,17 @@ due_near k p = cond_both (eqb k 0) 0 p (λ n. n ≤ p) (λ _. omega arith) (λ _
 pub arrives_near : (start n far w : ℕ) → arrival start n far w ≤ start + (far + w)
 arrives_near start n far w = cond_both (eqb n 0) 0 (far + w) (λ x. start + x ≤ start + (far + w)) (λ _. omega arith) (λ _. omega arith)
 
-pub slack_formula : (net : Network) → IsFabric net → (t : Trip) (m : Message) → Goes net t m
+pub slack_formula : (net : Network) → IsFabric net → (t : Trip) (m : Message) → Goes net t m → task_timely t.destination ≡ true
     → message_slack net t m
     ≡ Some (pos (due m.kind t.source.period + t.destination.phase % gcd t.source.period t.destination.period) -ℤ pos (message_flow net t m).arrival)
-slack_formula net fab t m goes =
+slack_formula net fab t m goes reads =
     let h = timed t.source goes.source in
-    let j = timed t.destination goes.destination in
+    let j = timed t.destination reads in
     let k = sent t.source m goes.timely in
     let f = message_flow net t m in
     ap (λ o. slack_of o (task_hold t.destination))
     (flowing_within f
     (omega (arith, near net fab t m goes, arrives_near (departure t.source m) (length t.route) (travel net t.route) m.width, h.short, h.ends, k.soon, k.fits))
     (omega (arith, due_near m.kind t.source.period, h.short)) (omega (arith, h.some, h.fits)) (omega (arith, h.short)))
-    ∙ ap (slack_of (Some f)) (task_holds t.destination goes.destination)
+    ∙ ap (slack_of (Some f)) (task_holds t.destination reads)
     ∙ ap Some (least_whole f (task_span t.destination) (omega (arith, h.some, h.fits)) (omega (arith, j.some, j.fits)) (due_whole m.kind t.source.period t.destination.period))

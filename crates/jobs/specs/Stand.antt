@@ -20,7 +20,6 @@ TaskHolds = (t : Task) → task_timely t ≡ true → task_hold t ≡ Some (task
 -- a message that is within its limits goes along its trip, whose route the network has
 pub record Goes (net : Network) (t : Trip) (m : Message) : Type 0 where
   pub source : task_timely t.source ≡ true
-  pub destination : task_timely t.destination ≡ true
   pub timely : message_timely t.source m ≡ true
   pub along : net.route t.source.core t.destination.core ≡ Some t.route
 
@@ -45,9 +44,9 @@ PacketHolds =
 abbrev pub TravelEven : Type 0
 TravelEven = (net : Network) (route : List ℕ) → travel net route ≡ length route * net.delay
 
--- the least slack is c + (F of the destination mod g) less the arrival of packet 0, with c of the kind and g of both periods
+-- read by a task within its limits, the least slack is c + (F of the destination mod g) less the arrival of packet 0, with c of the kind and g of both periods
 abbrev pub SlackFormula : Type 0
 SlackFormula =
-    (net : Network) → IsFabric net → (t : Trip) (m : Message) → Goes net t m
+    (net : Network) → IsFabric net → (t : Trip) (m : Message) → Goes net t m → task_timely t.destination ≡ true
     → message_slack net t m
     ≡ Some (pos (due m.kind t.source.period + t.destination.phase % gcd t.source.period t.destination.period) -ℤ pos (message_flow net t m).arrival)

@@ -9,6 +9,7 @@ use Rattle.holds.specs.Slack.{Flow, LeastSlack, ReadAt}
 use Rattle.holds.specs.Span.{Span}
 use Rattle.holds.proofs.Reading.{always_read}
 use Rattle.records.specs.declared.record.Message.{Message}
+use Rattle.jobs.specs.Checks.{task_timely}
 use Rattle.jobs.specs.Slacks.{lateness, message_slack}
 use Rattle.jobs.specs.Stand.{Goes}
 use Rattle.jobs.specs.Timing.{due, task_span}
@@ -47,21 +48,21 @@ below (Some w) v e = go (lt_z w (pos 0)) refl e
 too_late : (v : ℤ) (t a : ℕ) → lt_z v (pos 0) ≡ true → v ≡ (pos t -ℤ pos a) → a ≤ t → ⊥
 too_late v t a neg e le = grind (arith, ints)
 
-module _ (net : Network) (fab : IsFabric net) (t : Trip) (m : Message) (goes : Goes net t m) where
+module _ (net : Network) (fab : IsFabric net) (t : Trip) (m : Message) (goes : Goes net t m) (reads : task_timely t.destination ≡ true) where
   value : ℤ
   value =
       pos (due m.kind t.source.period + t.destination.phase % gcd t.source.period t.destination.period) -ℤ pos (message_flow net t m).arrival
 
   slack_is : message_slack net t m ≡ Some value
   unfolding value
-  slack_is = slack_formula net fab t m goes
+  slack_is = slack_formula net fab t m goes reads
 
   -- where the least slack is not below 0, every packet has arrived when the run that must read it starts
   pub on_time : lateness (message_slack net t m) ≡ None → InTime net t m
   on_time none k =
       let f = message_flow net t m in
       let least = least_told f t.destination value slack_is in
-      let timely = goes.destination in
+      let timely = reads in
       let runs : 0 < t.destination.period = grind (arith, nat_tests) in
       let read = always_read f (task_span t.destination) k runs in
       let late : lateness (Some value) ≡ None = ap lateness (sym slack_is) ∙ none in

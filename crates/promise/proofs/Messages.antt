@@ -1,5 +1,5 @@
 -- Offers of messages to a clean plan: taken exactly where the plan stays safe.
-use Rattle.std.proofs.Common.{◌≡◌, ℕ, ◌⊎◌, List, map, ℤ, Some, None, Ok, Err, Option, Result, sym, refl, ap, ◌∙◌, subst, inl, inr, ⊎_elim}
+use Rattle.std.proofs.Common.{true, ◌≡◌, ℕ, ◌⊎◌, List, map, ℤ, Some, None, Ok, Err, Option, Result, sym, refl, ap, ◌∙◌, subst, inl, inr, ⊎_elim}
 use Rattle.std.specs.Option.{option_map}
 use Rattle.std.proofs.lemmas.Option.{same_Some}
 use Rattle.fabric.specs.Network.{IsFabric}
@@ -15,6 +15,7 @@ use Rattle.jobs.specs.Claims.{claims, claims_on}
 use Rattle.jobs.specs.Jobs.{In, IsHeld, Jobs, Setting, message_name, with_message}
 use Rattle.jobs.specs.Meetings.{HeldJob, first_met, held_message}
 use Rattle.jobs.specs.Rules.{late, message_refusal, offer_message, offered, packet_refusal, refusal_past}
+use Rattle.jobs.specs.Checks.{task_timely}
 use Rattle.jobs.specs.Slacks.{lateness, message_slack}
 use Rattle.jobs.specs.Stand.{Goes}
 use Rattle.jobs.specs.Takes.{Take, message_takes, packet_takes, take_of}
@@ -25,11 +26,14 @@ use Rattle.promise.proofs.Lateness.{below, late_breaks, late_least, on_time}
 use Rattle.promise.proofs.Lists.{add_new, add_old, distinct_add_apart, in_add}
 use Rattle.promise.proofs.Offered.{first_meets, none_meets}
 use Rattle.promise.proofs.Passing.{message_admitted, passed_sent}
-use Rattle.promise.proofs.Takes.{Whole, goes_between, kinds_apart, made_goes, message_whole, same_run, uses_as}
+use Rattle.promise.proofs.Takes.{Whole, goes_between, kinds_apart, made_goes, message_whole, reads_between, same_run, uses_as}
 
 module _ (g : Setting) (fab : IsFabric g.network) (js : Jobs) (m : Message) (t : Trip) (clean : Clean g js) (p : MessagePassed g js m t) where
   goes : Goes g.network t m
   goes = goes_between g js clean m t p.going (passed_sent g js m t p)
+
+  reads : task_timely t.destination ≡ true
+  reads = reads_between g js clean m t p.going
 
   own_whole : Whole g js (job.Message m)
   own_whole = message_whole g fab js m t p.going goes
@@ -118,7 +122,7 @@ module _ (g : Setting) (fab : IsFabric g.network) (js : Jobs) (m : Message) (t :
   late_breaks_it v is broken =
       let h = broken.on_time m (add_new message_name m js.messages) in
       let same : h.trip ≡ t = same_Some _ _ (sym h.going ∙ p.going) in
-      late_breaks g.network fab t m goes v is (subst (λ x. InTime g.network x m) same h.in_time)
+      late_breaks g.network fab t m goes reads v is (subst (λ x. InTime g.network x m) same h.in_time)
 
   pub refusal_is : message_refusal g js m ≡ packet_refusal g js m t
   refusal_is = ap (λ r. refusal_past r (packet_refusal g js m)) (message_admitted g js m t p)
@@ -143,7 +147,7 @@ module _ (g : Setting) (fab : IsFabric g.network) (js : Jobs) (m : Message) (t :
     where
       go : (v : Option ℤ) (o : Option Meeting) → slack ≡ v → met ≡ o → MessageOffer g js m t (offered (late v (option_map message_fault.Meets o)) js (with_message js m)).0
       go None None is_v is_o =
-          let on = on_time g.network fab t m goes is_v in
+          let on = on_time g.network fab t m goes reads is_v in
           record {
             exact = (λ x. absurd (no_err x.0 x.1), λ broken. absurd (broken (safe on (met_is None is_o))));
             taken = λ _. keeps on (met_is None is_o);
@@ -157,10 +161,10 @@ module _ (g : Setting) (fab : IsFabric g.network) (js : Jobs) (m : Message) (t :
           record {
             exact = (λ _. meeting_breaks x f, λ _. (message_fault.Meets x, refl));
             taken = λ k. cc;
-            why = λ e k. let same : message_fault.Meets x ≡ e = cc in subst (MessageWhy g js m t) same (on_time g.network fab t m goes is_v, f);
+            why = λ e k. let same : message_fault.Meets x ≡ e = cc in subst (MessageWhy g js m t) same (on_time g.network fab t m goes reads is_v, f);
           }
       go (Some v) o is_v is_o =
-          let least = late_least g.network fab t m goes v is_v in
+          let least = late_least g.network fab t m goes reads v is_v in
           let neg = (below (message_slack g.network t m) v is_v).1 in
           record {
             exact = (λ _. late_breaks_it v is_v, λ _. (message_fault.Late v, refl));

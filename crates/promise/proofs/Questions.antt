@@ -32,7 +32,7 @@ use Rattle.jobs.proofs.Slacks.{held_slack}
 use Rattle.promise.specs.Clean.{Clean, Uses}
 use Rattle.promise.specs.Questions.{HolderAnswer, HolderFound, SlackAnswer}
 use Rattle.promise.proofs.Lists.{apart_none, in_map, in_named, map_in, named_in}
-use Rattle.promise.proofs.Takes.{Whole, held_whole, made_goes, packet_link, take_uses, task_core, uses_take}
+use Rattle.promise.proofs.Takes.{Whole, held_whole, made_goes, packet_link, reads_between, take_uses, task_core, uses_take}
 
 -- ---- a told holder is the only one
 
@@ -151,7 +151,7 @@ module _ (g : Setting) (fab : IsFabric g.network) (js : Jobs) (clean : Clean g j
       let h = clean.made.messages m i in
       let t = h.trip in (
         pos (due m.kind t.source.period + t.destination.phase % gcd t.source.period t.destination.period) -ℤ pos (message_flow g.network t m).arrival,
-        ap (option_and_then (λ t. message_slack g.network t m)) h.going ∙ slack_formula g.network fab t m (made_goes g js clean m h),
+        ap (option_and_then (λ t. message_slack g.network t m)) h.going ∙ slack_formula g.network fab t m (made_goes g js clean m h) (reads_between g js clean m t h.going),
       )
 
   -- the told slack is the least over all packets, and each held message has one

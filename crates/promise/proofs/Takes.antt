@@ -74,10 +74,15 @@ goes_between g js clean m t e timely =
     let p = trip_parts g.network (task_named js.tasks m.source) (task_named js.tasks m.destination) t e in
     record {
       source = timely_made g t.source (found_made g js clean m.source t.source p.source);
-      destination = timely_made g t.destination (found_made g js clean m.destination t.destination p.destination);
       timely = timely;
       along = p.along;
     }
+
+-- and is read by one of them
+pub reads_between : (g : Setting) (js : Jobs) → Clean g js → (m : Message) (t : Trip) → trip_of g js.tasks m ≡ Some t → task_timely t.destination ≡ true
+reads_between g js clean m t e =
+    let p = trip_parts g.network (task_named js.tasks m.source) (task_named js.tasks m.destination) t e in
+    timely_made g t.destination (found_made g js clean m.destination t.destination p.destination)
 
 pub made_goes : (g : Setting) (js : Jobs) → Clean g js → (m : Message) (h : MessageMade g js.tasks m) → Goes g.network h.trip m
 made_goes g js clean m h = goes_between g js clean m h.trip h.going (timely_sent h.trip.source m h.kind h.delay h.some h.fits)
