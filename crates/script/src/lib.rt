@@ -7,7 +7,7 @@ mod forms;
 pub mod line;
 pub mod reading;
 pub mod reply;
-pub mod running;
+mod running;
 pub mod showing;
 #[cfg(test)]
 mod tests;

@@ -64,7 +64,7 @@ fn reply_of<'l, F: Fabric>(
 
 /// Runs the lines from a place on, each with its text, on a new plan over a fabric, and adds each to `out` with what it is answered; up to
 /// the first that makes another fabric. Answers that fabric and the place after its line, or nothing after the last line.
-pub fn run_lines<'l, F: Fabric>(
+pub(crate) fn run_lines<'l, F: Fabric>(
     heap: Global,
     out: &mut Vec<u8>,
     fabric: &F,
