@@ -1,5 +1,5 @@
 -- Within the limits of tasks and messages every claim is a hold, and the least slack is the formula's.
-use Rattle.std.proofs.Common.{◌≡◌, ℕ, zero, suc, ◌+◌, ◌*◌, ◌%◌, ◌<◌, ◌≤◌, true, eqb, List, [], ◌∷◌, length, pos, take, ◌-ℤ◌, Some, refl, ap, ◌∙◌, subst, suc-mul, mul-le-mul, arith}
+use Rattle.std.proofs.Common.{◌≡◌, ℕ, zero, suc, ◌+◌, ◌*◌, ◌%◌, ◌<◌, ◌≤◌, true, eqb, cond, ◌==◌, List, [], ◌∷◌, length, pos, take, ◌-ℤ◌, Some, refl, ap, ◌∙◌, subst, suc-mul, mul-le-mul, arith}
 use Rattle.std.specs.List.{slice_get}
 use Rattle.std.specs.Option.{option_map}
 use Rattle.std.proofs.lemmas.Bool.Decides.{nat_tests}
@@ -12,13 +12,14 @@ use Rattle.holds.specs.Gcd.{gcd}
 use Rattle.holds.proofs.Euclid.{gcd_is_greatest}
 use Rattle.holds.proofs.Limits.{flowing_within, spanned_within}
 use Rattle.holds.proofs.Reading.{least_whole}
+use Rattle.holds.specs.Slack.{Flow}
 use Rattle.records.specs.declared.record.Task.{Task}
 use Rattle.records.specs.declared.record.Message.{Message}
 use Rattle.jobs.specs.Checks.{message_timely, task_timely}
 use Rattle.jobs.specs.Claims.{Claim, link_claims, trip_claims}
 use Rattle.jobs.specs.Places.{link}
 use Rattle.jobs.specs.Slacks.{message_slack, slack_of}
-use Rattle.jobs.specs.Stand.{Goes}
+use Rattle.jobs.specs.Stand.{FlowEven, Goes}
 use Rattle.jobs.specs.Takes.{packet_takes, take_of, task_hold}
 use Rattle.jobs.specs.Timing.{arrival, departure, due, link_delay, offset, task_span, travel}
 use Rattle.jobs.specs.Trips.{Trip, message_flow}
@@ -52,6 +53,11 @@ pub travel_even : (net : Network) (r : List ℕ) → travel net r ≡ length r *
 travel_even net [] = omega arith
 travel_even net (l ∷ ls) = omega (arith, suc-mul (length ls) net.delay, travel_even net ls)
 
+pub offset_even : (net : Network) (r : List ℕ) (i : ℕ) → i ≤ length r → offset net r i ≡ i * net.delay
+offset_even net r zero h = omega arith
+offset_even net [] (suc i) h = omega (arith, h)
+offset_even net (l ∷ ls) (suc i) h = omega (arith, suc-mul i net.delay, offset_even net ls i (omega (arith, h)))
+
 -- so no route takes long
 pub travel_near : (net : Network) → IsFabric net → (a b : ℕ) (r : List ℕ) → net.route a b ≡ Some r → travel net r ≤ 4096
 travel_near net fab a b r e =
@@ -70,6 +76,11 @@ claims_at net (x ∷ xs) start p w (suc i) l e =
     let later : start + link_delay net x + offset net xs i ≡ start + (link_delay net x + offset net xs i) = omega arith in
     claims_at net xs (start + link_delay net x) p w i l e
     ∙ ap (λ (n : ℕ). Some (record { place = link l; span = record { start = n; period = p; width = w } })) later
+
+-- a claim for each link, and no other
+pub claims_length : (net : Network) (r : List ℕ) (start p w : ℕ) → length (link_claims net r start p w) ≡ length r
+claims_length net [] start p w = refl
+claims_length net (x ∷ xs) start p w = ap suc (claims_length net xs (start + link_delay net x) p w)
 
 -- and at most the travel of the route later
 pub record Within (net : Network) (r : List ℕ) (start p w : ℕ) (c : Claim) : Type 0 where
@@ -106,6 +117,18 @@ module _ (net : Network) (fab : IsFabric net) (t : Trip) (m : Message) (goes : G
   packet_holds i c at = slice_get-map take_of (trip_claims net t m) i ∙ ap (option_map take_of) at ∙ ap Some (claim_holds i c at)
 
 -- ---- slacks
+
+-- when packets go, in the numbers of the tasks and the message
+pub flow_even : FlowEven
+flow_even net t m = ap (λ (far : ℕ). spelled far) (travel_even net t.route)
+  where
+    spelled : ℕ → Flow
+    spelled far =
+        record {
+          arrival = departure t.source m + cond (length t.route == 0) 0 (far + m.width);
+          due = due m.kind t.source.period;
+          period = t.source.period;
+        }
 
 -- the divisor of both periods divides the due instant, 0 or a period of the source
 due_whole : (k p q : ℕ) → gcd p q ∣ due k p

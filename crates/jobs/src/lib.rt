@@ -1,7 +1,7 @@
 //! What a plan holds, and why an offer is refused: tasks on cores, messages between them, the places that they take and when.
 #![tactic(auto)]
 
-ghost use Rattle.jobs.specs.Stand.{ClaimsRoute, PacketHolds, SlackFormula, TaskHolds, TravelEven};
+ghost use Rattle.jobs.specs.Stand.{ClaimsRoute, FlowEven, PacketHolds, SlackFormula, TaskHolds, TravelEven};
 
 pub mod fault;
 mod held;
@@ -23,5 +23,6 @@ pub fn rules_stand()
     ensures route { ClaimsRoute }
     ensures packets { PacketHolds }
     ensures travel { TravelEven }
+    ensures flow { FlowEven }
     ensures slack { SlackFormula }
 {}

@@ -1,9 +1,10 @@
-// Jobs that are to be placed: a task whose phase is open, a message whose delay is.
+//! Jobs that are to be placed: a task whose phase is open, a message whose delay is.
 ghost use Rattle.jobs.specs.Open.{message_at, task_at};
 ghost use Rattle.std.specs.Prelude.{◌≡◌};
 
 use records::record::{Message, Task};
 
+/// A task whose phase is open. Its limits, which a placing checks, are those of a task ([`records::record::Task`]), with phase 0.
 #[derive(Clone, Copy, PartialEq, Eq, Debug)]
 pub struct OpenTask {
     pub name: u16,
@@ -12,6 +13,7 @@ pub struct OpenTask {
     pub width: u32,
 }
 
+/// A message whose delay is open. Its limits are those of a message, with delay 0.
 #[derive(Clone, Copy, PartialEq, Eq, Debug)]
 pub struct OpenMessage {
     pub name: u16,
@@ -23,7 +25,7 @@ pub struct OpenMessage {
 }
 
 impl OpenTask {
-    // The task with this phase.
+    /// The task with this phase.
     pub fn at(self, phase: u32) -> Task
         ensures { result ≡ task_at self phase }
     {
@@ -38,7 +40,7 @@ impl OpenTask {
 }
 
 impl OpenMessage {
-    // The message with this delay.
+    /// The message with this delay.
     pub fn at(self, delay: u32) -> Message
         ensures { result ≡ message_at self delay }
     {

@@ -5,6 +5,7 @@ ghost use Rattle.std.specs.Prelude.{◌≡◌};
 use records::record::{Message, Task};
 use records::search::named;
 
+/// A fabric, and the held tasks, among which messages find the two that they name.
 #[derive(Drop)]
 pub struct Routing<'a, F> {
     pub fabric: &'a F,

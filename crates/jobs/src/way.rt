@@ -11,6 +11,8 @@ use fabric::Fabric;
 use holds::Hold;
 use records::record::Message;
 
+/// The way of a message's packets over a fabric: from which node to which, over how many links; when packet 0 takes the first of them, how long
+/// after that it is past the last, and how far apart packets are. All times are in cycles.
 #[derive(Clone, Copy)]
 pub struct Way {
     pub(crate) from: usize,
