@@ -10,11 +10,10 @@ use Rattle.jobs.specs.declared.fault.DropFault.{DropFault}
 use Rattle.jobs.specs.declared.open.OpenTask.{OpenTask}
 use Rattle.jobs.specs.declared.open.OpenMessage.{OpenMessage}
 use Rattle.jobs.specs.Drops.{drop_message, drop_task, in_use}
-use Rattle.jobs.specs.Jobs.{Jobs, Setting, message_name, nothing, task_name, with_message, with_task, without_message, without_task}
+use Rattle.jobs.specs.Jobs.{In, Jobs, Setting, message_name, nothing, task_name, with_message, with_task, without_message, without_task}
 use Rattle.jobs.specs.Placings.{place_message, place_task}
 use Rattle.jobs.specs.Rules.{message_refusal, offer_message, offer_task, task_refusal}
 use Rattle.promise.specs.Canonical.{Canonical}
-use Rattle.jobs.specs.Jobs.{In}
 use Rattle.promise.proofs.Kept.{message_free, task_free, message_offer_kept, message_place_kept, task_offer_kept, task_place_kept}
 use Rattle.promise.proofs.Lists.{apart_none}
 

@@ -7,8 +7,7 @@ use Rattle.records.specs.declared.record.Message.{Message}
 use Rattle.jobs.specs.declared.fault.DropFault.{DropFault}
 use Rattle.jobs.specs.declared.fault.DropFault.TheVariants.{InUse, Unknown}
 use Rattle.jobs.specs.Drops.{drop_message, drop_task, in_use, names_task}
-use Rattle.jobs.specs.Jobs.{Jobs, message_name, task_name, without_message, without_task}
-use Rattle.jobs.specs.Jobs.{In}
+use Rattle.jobs.specs.Jobs.{In, Jobs, message_name, task_name, without_message, without_task}
 use Rattle.promise.specs.Droppings.{MessageDropped, TaskDropped}
 use Rattle.promise.proofs.Lists.{fresh_apart, in_cases, in_nil, in_there, named_in}
 

@@ -20,3 +20,5 @@ pub mod Droppings
 pub mod Placing
 pub mod Tabled
 pub mod Room
+pub mod Used
+pub mod Which

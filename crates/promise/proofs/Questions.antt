@@ -1,6 +1,8 @@
 -- Questions on a clean plan: who has a place at an instant, and the slack of a message.
-use Rattle.std.proofs.Common.{◌≡◌, ℕ, ◌+◌, ◌%◌, ◌<◌, ◌≤◌, Bool, true, false, cond, leb, ◌↔◌, List, map, ℤ, pos, ◌-ℤ◌, Some, None, Ok, Err, Option, Result, sym, refl, ap, ◌∙◌, subst, ⊎_elim}
+use Rattle.std.proofs.Common.{◌≡◌, ℕ, ◌+◌, ◌*◌, ◌%◌, ◌<◌, ◌≤◌, Bool, true, false, cond, leb, ◌↔◌, List, map, ℤ, pos, ◌-ℤ◌, ◌≤ℤ◌, Some, None, Ok, Err, Option, Result, sym, refl, ap, ◌∙◌, subst, ⊎_elim, arith}
 use Rattle.std.specs.Option.{ok_or, option_and_then}
+use Rattle.std.proofs.lemmas.Int.{ints}
+use Rattle.std.proofs.lemmas.Option.{same_Some}
 use Rattle.std.proofs.lemmas.Bool.{cond-true, cases_lt, le-leb, leb-true}
 use Rattle.fabric.specs.Network.{IsFabric}
 use Rattle.holds.specs.Gcd.{gcd}
@@ -21,18 +23,22 @@ use Rattle.jobs.specs.Holding.{HolderIs, Holding, holder, holder_among, jobs_on,
 use Rattle.jobs.specs.Jobs.{In, IsHeld, Jobs, Setting, job_name, message_name, task_name}
 use Rattle.jobs.specs.Meetings.{HeldJob, held_message, held_task}
 use Rattle.jobs.specs.Places.{same_place}
-use Rattle.jobs.specs.Slacks.{message_slack, slack, slack_among, slack_held}
+use Rattle.jobs.specs.Slacks.{HeldSlack, message_slack, slack, slack_among, slack_held}
 use Rattle.jobs.specs.Takes.{Take, take_of}
-use Rattle.jobs.specs.Timing.{due}
+use Rattle.jobs.specs.Timing.{due, task_span}
 use Rattle.jobs.specs.Trips.{Trip, message_flow, trip_of}
 use Rattle.jobs.proofs.Holders.{JobsFit, holder_is, messages_fit, tasks_fit}
 use Rattle.jobs.proofs.Limits.{slack_formula}
 use Rattle.jobs.proofs.PlaceLemmas.{same_place_refl, same_place_true}
 use Rattle.jobs.proofs.Slacks.{held_slack}
-use Rattle.promise.specs.Clean.{Clean, Uses}
+use Rattle.promise.specs.Clean.{Clean, InTime, Uses}
 use Rattle.promise.specs.Questions.{HolderAnswer, HolderFound, SlackAnswer}
+use Rattle.promise.proofs.Lateness.{read_once}
 use Rattle.promise.proofs.Lists.{apart_none, in_map, in_named, map_in, named_in}
 use Rattle.promise.proofs.Takes.{Whole, held_whole, made_goes, packet_link, reads_between, take_uses, task_core, uses_take}
+
+not_below : (v : ℤ) (t a : ℕ) → v ≡ (pos t -ℤ pos a) → a ≤ t → pos 0 ≤ℤ v
+not_below v t a e le = grind (arith, ints)
 
 -- ---- a told holder is the only one
 
@@ -154,17 +160,35 @@ module _ (g : Setting) (fab : IsFabric g.network) (js : Jobs) (clean : Clean g j
         ap (option_and_then (λ t. message_slack g.network t m)) h.going ∙ slack_formula g.network fab t m (made_goes g js clean m h) (reads_between g js clean m t h.going),
       )
 
+  -- a held message is on time, so no slack of it is below 0
+  in_time : (n : ℕ) (v : ℤ) → HeldSlack g js n v → pos 0 ≤ℤ v
+  in_time n v h =
+      let held = (named_in message_name n h.message js.messages h.held).0 in
+      let o = clean.safe.on_time h.message held in
+      let same : o.trip ≡ h.trip = same_Some _ _ (sym o.going ∙ h.going) in
+      let f = message_flow g.network h.trip h.message in
+      let k = h.least.reached.0 in
+      let read = h.least.reached.1 in
+      let due = subst (λ (t : Trip). InTime g.network t h.message) same o.in_time k in
+      let at : due.0 ≡ read.0 = read_once f (task_span h.trip.destination) k due.0 read.0 due.1 read.1 in
+      not_below v read.0 (f.arrival + k * f.period) read.2 (subst (λ (n : ℕ). f.arrival + k * f.period ≤ n) at due.2)
+
   -- the told slack is the least over all packets, and each held message has one
   pub slack_told : (n : ℕ) → SlackAnswer g js n (slack g js n)
   slack_told n =
       record {
-        value = λ v e. held_slack g js n v (inside (slack_held g js n) v e);
+        value = λ v e. let h = held_slack g js n v (inside (slack_held g js n) v e) in (h, in_time n v h);
         refused = (
           λ x m i same. clash x.0 x.1 m i same,
           λ none. (Unknown, ap (λ (o : Option Message). ok_or (option_and_then (slack_among g js.tasks) o) Unknown) (apart_none message_name n js.messages none)),
         );
+        unknown = only (slack_held g js n);
       }
     where
+      only : (o : Option ℤ) (e : DropFault) → ok_or o Unknown ≡ Err e → e ≡ Unknown
+      only None e is = cc
+      only (Some v) e is = cc
+
       inside : (o : Option ℤ) (v : ℤ) → ok_or o Unknown ≡ Ok v → o ≡ Some v
       inside None v e = cc
       inside (Some w) v e = let same : w ≡ v = cc in ap Some same

@@ -94,7 +94,7 @@ pub record Whole (g : Setting) (js : Jobs) (x : Job) : Type 0 where
   pub taken : (c : Claim) → In c (claims g js.tasks x) → take_of c ≡ record { place = c.place; hold = Some c.span }
   pub once : (c d : Claim) → In c (claims g js.tasks x) → In d (claims g js.tasks x) → c.place ≡ d.place → c ≡ d
 
-lone_in : {X : Type 0} (x y : X) → In y (x ∷ []) → y ≡ x
+pub lone_in : {X : Type 0} (x y : X) → In y (x ∷ []) → y ≡ x
 lone_in x y k = ⊎_elim (λ e. e) (λ j. absurd (in_nil y j)) (in_cases x y [] k)
 
 pub task_whole : (g : Setting) (js : Jobs) (t : Task) → TaskMade g t → Whole g js (job.Task t)
@@ -115,7 +115,7 @@ claim_link net (x ∷ xs) start p w zero c e =
     (x, refl, ap (λ (d : Claim). d.place) (sym same))
 claim_link net (x ∷ xs) start p w (suc i) c e = claim_link net xs (start + link_delay net x) p w i c e
 
-nth_below : (xs : List ℕ) (i l : ℕ) → slice_get xs i ≡ Some l → (i < length xs) × (get_or xs i 0 ≡ l)
+pub nth_below : (xs : List ℕ) (i l : ℕ) → slice_get xs i ≡ Some l → (i < length xs) × (get_or xs i 0 ≡ l)
 nth_below [] i l at = cc
 nth_below (x ∷ xs) zero l at = (omega arith, cc)
 nth_below (x ∷ xs) (suc i) l at = let k = nth_below xs i l at in (omega (arith, k.0), k.1)

@@ -7,8 +7,7 @@ use Rattle.fabric.specs.Network.{Lawful}
 use Rattle.records.specs.Named.{ascends}
 use Rattle.records.specs.declared.record.Task.{Task}
 use Rattle.records.specs.declared.record.Message.{Message}
-use Rattle.jobs.specs.Jobs.{Jobs, Setting, message_name, nothing, task_name}
-use Rattle.jobs.specs.Jobs.{In}
+use Rattle.jobs.specs.Jobs.{In, Jobs, Setting, message_name, nothing, task_name}
 
 -- the names of the tasks ascend from 1 and those of the messages too, and there are at most 64 tasks and at most 128 messages
 pub record Canonical (js : Jobs) : Type 0 where

@@ -4,3 +4,4 @@ pub mod Questions
 pub mod Canonical
 pub mod Droppings
 pub mod Tabled
+pub mod Used

@@ -1,11 +1,12 @@
 -- Meaning. What an offer and a placing say of a clean plan.
 --   TaskPassed, MessagePassed    none of the conditions of the checks before lateness and meetings holds
+--   TaskFails, MessageFails      which of these checks fails first, number by number
 --   Meets                        an offered and a held job have one place at one instant
 --   FirstMeeting                 the first meeting of all time, then the smallest held name, then the smallest place
 --   TaskOffer, MessageOffer      an offer past the checks is refused exactly where taking it would make the plan unsafe
 --   TaskAnswer, MessageAnswer    what an offer answers, past the checks or not
 --   Smallest                     a placing answers the smallest value that an offer would be taken with
-use Rattle.std.specs.Prelude.{◌≡◌, ℕ, ◌+◌, ◌<◌, ◌≤◌, true, false, ◌↔◌, List, length, pos, Ok, Err, Result, Some, ◌≢◌, int_lt}
+use Rattle.std.specs.Prelude.{◌≡◌, ℕ, ◌+◌, ◌<◌, ◌≤◌, true, false, ◌↔◌, ◌⊎◌, List, length, None, pos, Ok, Err, Result, Some, ◌≢◌, int_lt}
 use Rattle.holds.specs.Slack.{LeastSlack}
 use Rattle.records.specs.declared.record.Task.{Task}
 use Rattle.records.specs.declared.record.Message.{Message}
@@ -21,7 +22,7 @@ use Rattle.jobs.specs.declared.meeting.Meeting.{Meeting}
 use Rattle.jobs.specs.declared.open.OpenTask.{OpenTask}
 use Rattle.jobs.specs.declared.open.OpenMessage.{OpenMessage}
 use Rattle.jobs.specs.declared.place.Place.{Place}
-use Rattle.jobs.specs.Jobs.{In, Jobs, Setting, message_name, task_name, with_message, with_task}
+use Rattle.jobs.specs.Jobs.{In, Jobs, Setting, message_name, task_name, task_named, with_message, with_task}
 use Rattle.jobs.specs.Open.{message_at, task_at}
 use Rattle.jobs.specs.Places.{place_before}
 use Rattle.jobs.specs.Rules.{offer_message, offer_task}
@@ -54,6 +55,56 @@ pub record MessagePassed (g : Setting) (js : Jobs) (m : Message) (t : Trip) : Ty
   pub some : 1 ≤ m.width
   pub fits : m.width ≤ t.source.period
   pub room : length js.messages < 128
+
+-- ---- which of them fails first
+
+-- no job can be offered with a name that is 0 or held
+abbrev pub NameTaken : {X : Type 0} → (X → ℕ) → ℕ → List X → Type 0
+NameTaken {X = X} name n xs = (n ≡ 0) ⊎ ((x : X) × In x xs × (name x ≡ n))
+
+-- a task's times: a period from 1 to 65,536, a width of at least 1, phase and width together at most the period
+pub record TaskTimes (t : Task) : Type 0 where
+  pub some_period : 1 ≤ t.period
+  pub short : t.period ≤ 65536
+  pub some : 1 ≤ t.width
+  pub fits : t.phase + t.width ≤ t.period
+
+-- a message's kind, delay and width, beside its source
+pub record MessageTimes (s : Task) (m : Message) : Type 0 where
+  pub kind : m.kind < 2
+  pub delay : m.delay < s.period
+  pub some : 1 ≤ m.width
+  pub fits : m.width ≤ s.period
+
+-- a task fails first for its name; for its core, where not for its name; for its times, where for neither; for want of room, where for none
+abbrev pub TaskFails : Setting → Jobs → Task → TaskFault → Type 0
+TaskFails g js t task_fault.Name = NameTaken task_name t.name js.tasks
+TaskFails g js t task_fault.Core = (NameTaken task_name t.name js.tasks → ⊥) × (g.network.nodes ≤ t.core)
+TaskFails g js t task_fault.Times = (NameTaken task_name t.name js.tasks → ⊥) × (t.core < g.network.nodes) × (TaskTimes t → ⊥)
+TaskFails g js t task_fault.Full = (NameTaken task_name t.name js.tasks → ⊥) × (t.core < g.network.nodes) × TaskTimes t × (64 ≤ length js.tasks)
+TaskFails g js t (task_fault.Meets x) = ⊥
+
+-- a message's source and destination are held
+pub record EndsHeld (js : Jobs) (m : Message) : Type 0 where
+  pub source : Task
+  pub destination : Task
+  pub sent_by : task_named js.tasks m.source ≡ Some source
+  pub read_by : task_named js.tasks m.destination ≡ Some destination
+
+-- a message whose name is free, between held tasks
+abbrev pub Sent : (js : Jobs) (m : Message) → (EndsHeld js m → Type 0) → Type 0
+Sent js m More = (NameTaken message_name m.name js.messages → ⊥) × (h : EndsHeld js m) × More h
+
+-- a message fails first for its name; for its tasks; for its times; for want of a route; for want of room
+abbrev pub MessageFails : Setting → Jobs → Message → MessageFault → Type 0
+MessageFails g js m message_fault.Name = NameTaken message_name m.name js.messages
+MessageFails g js m message_fault.Ends = (NameTaken message_name m.name js.messages → ⊥) × (EndsHeld js m → ⊥)
+MessageFails g js m message_fault.Times = Sent js m (λ h. MessageTimes h.source m → ⊥)
+MessageFails g js m message_fault.NoRoute = Sent js m (λ h. MessageTimes h.source m × (g.network.route h.source.core h.destination.core ≡ None))
+MessageFails g js m message_fault.Full =
+    Sent js m (λ h. MessageTimes h.source m × ((r : List ℕ) × (g.network.route h.source.core h.destination.core ≡ Some r)) × (128 ≤ length js.messages))
+MessageFails g js m (message_fault.Late v) = ⊥
+MessageFails g js m (message_fault.Meets x) = ⊥
 
 -- ---- meetings
 
@@ -129,13 +180,15 @@ EarlyMessage message_fault.Full = Unit {0}
 EarlyMessage (message_fault.Late v) = ⊥
 EarlyMessage (message_fault.Meets x) = ⊥
 
--- an answer is an early fault exactly where one of the earlier conditions holds; past them it is a refusal exactly where the plan with
--- the job would not be safe
+-- an answer is an early fault exactly where one of the earlier conditions holds, and that of the one that fails first; past them it is a
+-- refusal exactly where the plan with the job would not be safe
 pub record TaskAnswer (g : Setting) (js : Jobs) (t : Task) (r : Result (Unit {0}) TaskFault) : Type 0 where
+  pub first : (e : TaskFault) → EarlyTask e → (r ≡ Err e) ↔ TaskFails g js t e
   pub early : ((e : TaskFault) × (r ≡ Err e) × EarlyTask e) ↔ (TaskPassed g js t → ⊥)
   pub past : TaskPassed g js t → TaskOffer g js t r
 
 pub record MessageAnswer (g : Setting) (js : Jobs) (m : Message) (r : Result (Unit {0}) MessageFault) : Type 0 where
+  pub first : (e : MessageFault) → EarlyMessage e → (r ≡ Err e) ↔ MessageFails g js m e
   pub early : ((e : MessageFault) × (r ≡ Err e) × EarlyMessage e) ↔ ((t : Trip) → MessagePassed g js m t → ⊥)
   pub past : (t : Trip) → MessagePassed g js m t → MessageOffer g js m t r
 
@@ -155,11 +208,14 @@ pub record Smallest {E : Type 0} (Fits : ℕ → Type 0) (none : E) (r : Result 
   pub some : (v : ℕ) → (r ≡ Ok v) ↔ (Fits v × ((w : ℕ) → w < v → Fits w → ⊥))
   pub no_value : (r ≡ Err none) ↔ ((v : ℕ) → Fits v → ⊥)
 
--- a placing is answered by one of the earlier faults exactly where one of their conditions holds, and past them by the smallest value
+-- a placing is answered by one of the earlier faults exactly where one of their conditions holds, by that of the one that fails first; and
+-- past them by the smallest value
 pub record TaskPlacing (g : Setting) (js : Jobs) (t : OpenTask) (r : Result ℕ (PlacingFault TaskFault)) : Type 0 where
+  pub first : (e : TaskFault) → EarlyTask e → (r ≡ Err (placing.Offer e)) ↔ TaskFails g js (task_at t 0) e
   pub early : ((e : TaskFault) × (r ≡ Err (placing.Offer e)) × EarlyTask e) ↔ (TaskPassed g js (task_at t 0) → ⊥)
   pub past : TaskPassed g js (task_at t 0) → Smallest (TaskFits g js t) placing.NoFit r
 
 pub record MessagePlacing (g : Setting) (js : Jobs) (m : OpenMessage) (r : Result ℕ (PlacingFault MessageFault)) : Type 0 where
+  pub first : (e : MessageFault) → EarlyMessage e → (r ≡ Err (placing.Offer e)) ↔ MessageFails g js (message_at m 0) e
   pub early : ((e : MessageFault) × (r ≡ Err (placing.Offer e)) × EarlyMessage e) ↔ ((t : Trip) → MessagePassed g js (message_at m 0) t → ⊥)
   pub past : (t : Trip) → MessagePassed g js (message_at m 0) t → Smallest (MessageFits g js m t.source) placing.NoFit r

@@ -1,10 +1,11 @@
 -- Meaning. What the answers to questions say of a plan, by its runs and packets.
---   HolderFound   a told holder of a place at an instant is the run that has it, and none where no run has
---   Holds        of a place of the fabric, or a number that is no place
+--   HolderFound    a told holder of a place at an instant is the run that has it, and none where no run has
+--   HolderAnswer   of a place of the fabric, or a number that is no place; CoreAnswer and LinkAnswer by kind
 --   SlackAnswer    a told slack is the least over all packets of the held message, and none is told where no message has the name
-use Rattle.std.specs.Prelude.{◌≡◌, ℕ, ◌↔◌, ◌<◌, ◌≤◌, ℤ, Some, None, Ok, Err, Option, Result, ◌≢◌}
+use Rattle.std.specs.Prelude.{◌≡◌, ℕ, ◌↔◌, ◌<◌, ◌≤◌, ℤ, pos, ◌≤ℤ◌, Some, None, Ok, Err, Option, Result, ◌≢◌}
 use Rattle.records.specs.declared.record.Message.{Message}
 use Rattle.jobs.specs.declared.fault.DropFault.{DropFault}
+use Rattle.jobs.specs.declared.fault.DropFault.TheVariants.{Unknown}
 use Rattle.jobs.specs.declared.fault.PlaceFault.{PlaceFault}
 use Rattle.jobs.specs.declared.job.Job.{Job}
 use Rattle.jobs.specs.declared.place.Place.{Place}
@@ -31,8 +32,9 @@ CoreAnswer g js c n = HolderAnswer g js (core c) n
 abbrev pub LinkAnswer : Setting → Jobs → ℕ → ℕ → Result (Option (ℕ × ℕ)) PlaceFault → Type 0
 LinkAnswer g js l n = HolderAnswer g js (link l) n
 
--- a told slack of the name n is the least: some packet of the held message of that name has it, and none has less; and it is refused
--- exactly when no held message has the name
+-- a told slack of the name n is the least: some packet of the held message of that name has it, none has less, and it is not below 0; and
+-- it is refused, as unknown, exactly when no held message has the name
 pub record SlackAnswer (g : Setting) (js : Jobs) (n : ℕ) (r : Result ℤ DropFault) : Type 0 where
-  pub value : (v : ℤ) → r ≡ Ok v → HeldSlack g js n v
+  pub value : (v : ℤ) → r ≡ Ok v → HeldSlack g js n v × (pos 0 ≤ℤ v)
   pub refused : ((e : DropFault) × (r ≡ Err e)) ↔ ((m : Message) → In m js.messages → m.name ≢ n)
+  pub unknown : (e : DropFault) → r ≡ Err e → e ≡ Unknown

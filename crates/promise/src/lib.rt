@@ -4,8 +4,11 @@
 
 ghost use Rattle.jobs.specs.Jobs.{Setting, nothing};
 ghost use Rattle.promise.specs.Clean.{Clean};
+ghost use Rattle.promise.specs.Used.{MessageUses, TaskUses};
 
-/// A new plan is clean.
+/// A new plan is clean; and which run or packet has which place when is as the numbers of jobs and fabrics have it.
 pub fn plans_stand()
     ensures clean { (g : Setting) → Clean g nothing }
+    ensures tasks { TaskUses }
+    ensures messages { MessageUses }
 {}

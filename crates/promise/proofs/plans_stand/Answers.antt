@@ -1,0 +1,8 @@
+use Rattle.promise.proofs.Used.{message_uses, task_uses}
+use Rattle.promise.proofs.plans_stand.Goals as goal
+
+pub returns-clause-tasks : goal.returns-clause-tasks
+returns-clause-tasks c = task_uses
+
+pub returns-clause-messages : goal.returns-clause-messages
+returns-clause-messages c = message_uses
