@@ -4,11 +4,10 @@ use Rattle.records.proofs.Places.{length_add}
 use Rattle.records.specs.declared.record.Task.{Task}
 use Rattle.records.specs.declared.record.Message.{Message}
 use Rattle.refusals.specs.declared.refusal.Counts.{Counts}
-use Rattle.jobs.specs.Jobs.{Jobs, Setting, message_name, nothing, task_name}
+use Rattle.jobs.specs.Jobs.{In, Jobs, Setting, message_name, nothing, task_name}
 use Rattle.jobs.specs.Offered.{joined}
 use Rattle.jobs.specs.declared.job.Job.TheVariants as job
 use Rattle.jobs.specs.declared.job.JobFault.{JobFault}
-use Rattle.jobs.specs.Jobs.{In}
 use Rattle.promise.proofs.Lists.{append_in, in_left, in_map, in_nil, in_right, map_in}
 use Rattle.plan.specs.Loading.{counted, file_order, in_turn, job_part, load, loaded}
 use Rattle.plan.specs.Loads.{all_joined}

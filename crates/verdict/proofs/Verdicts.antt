@@ -1,6 +1,7 @@
 -- What the verdict on a plan file says of its jobs: from the load of its job part on its network.
-use Rattle.std.proofs.Common.{◌≡◌, ℕ, Bool, true, false, cond, List, length, Ok, Err, Result, refl, ◌∙◌, subst}
+use Rattle.std.proofs.Common.{◌≡◌, ℕ, Bool, true, false, cond, List, length, ◌<◌, ◌≤◌, ◌↔◌, Ok, Err, Result, refl, ap, ◌∙◌, subst, arith}
 use Rattle.std.specs.Prelude.{nat_lt}
+use Rattle.std.proofs.lemmas.Bool.Decides.{nat_tests}
 use Rattle.refusals.specs.declared.refusal.Counts.{Counts}
 use Rattle.fabric.specs.Network.{Network}
 use Rattle.refusals.specs.Steps.{within}
@@ -12,10 +13,10 @@ use Rattle.plan.proofs.Loads.{load_keeps}
 use Rattle.plan.proofs.Stands.{clean_nothing}
 use Rattle.plan.proofs.Tries.{load_told}
 use Rattle.plan.specs.Loads.{LoadAnswer}
-use Rattle.verdict.specs.Judged.{FileClean, FileFabric, FileRefused}
+use Rattle.verdict.specs.Judged.{FileClean, FileFabric, FileRefused, NoFabric, TooLong}
 use Rattle.verdict.specs.Verdict.{file_part, judged_on, on_part, verdict_of}
 use Rattle.verdict.specs.declared.fault.FileFault.{FileFault}
-use Rattle.verdict.specs.declared.fault.FileFault.TheVariants.{Extra, Load}
+use Rattle.verdict.specs.declared.fault.FileFault.TheVariants.{Extra, Fabric, Load}
 use Rattle.verdict.proofs.Fabrics.{part_fabric}
 use Rattle.verdict.proofs.Taken.{load_taken}
 
@@ -89,3 +90,36 @@ file_refused file e is =
       fabric = l.fabric;
       load = subst (LoadAnswer g nothing l.part) l.is (load_told g l.fabric.lawful nothing (clean_nothing g) l.part);
     }
+
+-- ---- what else a file is refused for
+
+not_long : (o : Result (Network × List ℕ) SetFault) → on_part o ≡ Err Extra → ⊥
+not_long (Err e) is = cc
+not_long (Ok p) is = go (load (created_on p.0) nothing p.1).0 is
+  where
+    go : (r : Result Counts LoadFault) → within Load r ≡ Err Extra → ⊥
+    go (Ok n) is = cc
+    go (Err e) is = cc
+
+pub too_long : (file : List ℕ) → TooLong file (verdict_of file)
+too_long file = go (nat_lt 8192 (length file)) refl
+  where
+    go : (b : Bool) → nat_lt 8192 (length file) ≡ b → TooLong file (cond b (Err Extra) (on_part (file_part file)))
+    go true is = (λ _. grind (arith, nat_tests), λ _. refl)
+    go false is = (λ e. absurd (not_long (file_part file) e), λ long. let short : length file ≤ 8192 = grind (arith, nat_tests) in absurd (omega (arith, long, short)))
+
+on_fabric : (o : Result (Network × List ℕ) SetFault) (e : SetFault) → on_part o ≡ Err (Fabric e) → o ≡ Err e
+on_fabric (Err f) e is = cc
+on_fabric (Ok p) e is = go (load (created_on p.0) nothing p.1).0 is
+  where
+    go : (r : Result Counts LoadFault) → within Load r ≡ Err (Fabric e) → ◌≡◌ {A = Result (Network × List ℕ) SetFault} (Ok p) (Err e)
+    go (Ok n) is = cc
+    go (Err f) is = cc
+
+pub no_fabric : (file : List ℕ) → NoFabric file (verdict_of file)
+no_fabric file e = go (nat_lt 8192 (length file)) refl
+  where
+    go : (b : Bool) → nat_lt 8192 (length file) ≡ b
+        → (cond b (Err Extra) (on_part (file_part file)) ≡ Err (Fabric e)) ↔ ((length file ≤ 8192) × (file_part file ≡ Err e))
+    go true is = (λ x. cc, λ h. let long : 8192 < length file = grind (arith, nat_tests) in absurd (omega (arith, long, h.0)))
+    go false is = (λ x. (grind (arith, nat_tests), on_fabric (file_part file) e x), λ h. ap on_part h.1)

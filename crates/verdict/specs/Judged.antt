@@ -2,11 +2,13 @@
 --   FileFabric     the network that a file sets, which keeps the laws of every fabric
 --   FileClean      the jobs of a file that was taken whole are a clean plan on its fabric
 --   FileRefused    a load that was refused, by the offers that it tries
-use Rattle.std.specs.Prelude.{◌≡◌, ℕ, ◌≤◌, ◌↔◌, List, length, Ok, Err}
+--   TooLong, NoFabric    what else a file is refused for
+use Rattle.std.specs.Prelude.{◌≡◌, ℕ, ◌<◌, ◌≤◌, ◌↔◌, List, length, Ok, Err, Result}
 use Rattle.records.specs.declared.record.Task.{Task}
 use Rattle.records.specs.declared.record.Message.{Message}
 use Rattle.refusals.specs.declared.refusal.Counts.{Counts}
 use Rattle.fabric.specs.Network.{IsFabric, Network}
+use Rattle.listed.specs.declared.faults.SetFault.{SetFault}
 use Rattle.jobs.specs.Jobs.{In, Jobs, created_on, nothing}
 use Rattle.plan.specs.Held.{counts_of}
 use Rattle.plan.specs.Loading.{job_part}
@@ -14,6 +16,8 @@ use Rattle.plan.specs.declared.fault.LoadFault.{LoadFault}
 use Rattle.promise.specs.Clean.{Clean}
 use Rattle.plan.specs.Loads.{LoadAnswer}
 use Rattle.verdict.specs.Verdict.{file_part}
+use Rattle.verdict.specs.declared.fault.FileFault.{FileFault}
+use Rattle.verdict.specs.declared.fault.FileFault.TheVariants.{Extra, Fabric}
 
 -- the network and the job part are the file's, and the network keeps the laws, with routes of at most 64 links
 pub record FileFabric (file : List ℕ) (net : Network) (part : List ℕ) : Type 0 where
@@ -45,3 +49,11 @@ pub record FileRefused (file : List ℕ) (e : LoadFault) : Type 0 where
   pub part : List ℕ
   pub fabric : FileFabric file net part
   pub load : LoadAnswer (created_on net) nothing part (Err e)
+
+-- a file is refused as too long exactly where it has over 8,192 bytes
+abbrev pub TooLong : List ℕ → Result Counts FileFault → Type 0
+TooLong file r = (r ≡ Err Extra) ↔ (8192 < length file)
+
+-- and one that is not, for its head, links or routes exactly where they make no network
+abbrev pub NoFabric : List ℕ → Result Counts FileFault → Type 0
+NoFabric file r = (e : SetFault) → (r ≡ Err (Fabric e)) ↔ ((length file ≤ 8192) × (file_part file ≡ Err e))

@@ -4,7 +4,7 @@ ghost use Rattle.plan.specs.Follows.{Says};
 ghost use Rattle.refusals.specs.Told.{buffer_told};
 ghost use Rattle.refusals.specs.declared.refusal.Counts.{Counts};
 ghost use Rattle.std.specs.Prelude.{◌≡◌, ◌≤◌, length, IfOk, Ok, Err, MatchResult};
-ghost use Rattle.verdict.specs.Judged.{FileClean, FileRefused};
+ghost use Rattle.verdict.specs.Judged.{FileClean, FileRefused, NoFabric, TooLong};
 ghost use Rattle.verdict.specs.Told.{line_left, line_length};
 ghost use Rattle.verdict.specs.Verdict.{judged_on, listed_verdict, mesh_sections, mesh_verdict, verdict_of};
 ghost use Rattle.verdict.specs.declared.fault.FileFault.TheVariants.{Load};
@@ -75,13 +75,15 @@ fn judge_file(file: &[u8]) -> Result<Counts, FileFault>
 /// Writes the verdict line on a plan file to the start of the buffer and answers its length; bytes beyond it stay. A buffer of
 /// fewer than 64 bytes is refused with 27 and stays. The jobs of a file that is counted are clean for all of time on its fabric; one
 /// whose job part is refused is refused as the plan's promise says.
-#[tactic(auto, using(crate::proofs::Verdicts::file_clean, crate::proofs::Verdicts::file_refused))]
+#[tactic(auto, using(crate::proofs::Verdicts::file_clean, crate::proofs::Verdicts::file_refused, crate::proofs::Verdicts::too_long, crate::proofs::Verdicts::no_fabric))]
 pub fn judge(file: &[u8], out: &mut [u8]) -> Result<usize, BufferFault>
     ensures follows { Says result buffer_told (line_length file.now (length out.old)) }
     ensures buffer { out.new ≡ line_left file.now out.old }
     ensures bound { IfOk result (λ n. n ≤ 64) }
     ensures clean { (n : Counts) → verdict_of file.now ≡ Ok n → FileClean file.now n }
     ensures refused { (e : LoadFault) → verdict_of file.now ≡ Err (Load e) → FileRefused file.now e }
+    ensures long { TooLong file.now (verdict_of file.now) }
+    ensures fabric { NoFabric file.now (verdict_of file.now) }
 {
     write_line(out, judge_file(file).map_err(Told::from))
 }
