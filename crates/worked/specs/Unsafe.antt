@@ -1,5 +1,5 @@
 -- Meaning. What may not be held, each case for one reason, by the runs and packets themselves.
-use Rattle.std.specs.Prelude.{ℕ, ◌+◌, ◌*◌, List, [], ◌∷◌}
+use Rattle.std.specs.Prelude.{ℕ, ◌+◌, List, [], ◌∷◌}
 use Rattle.records.specs.declared.record.Task.{Task}
 use Rattle.records.specs.declared.record.Message.{Message}
 use Rattle.jobs.specs.Jobs.{Jobs, Setting}
@@ -23,14 +23,26 @@ both ts ms = record { tasks = ts; messages = ms }
 abbrev pub two : Setting
 two = mesh 2 1 3
 
+-- four nodes in a row, where a packet is past each link 1 instant after it takes it
+abbrev pub row : Setting
+row = mesh 4 1 1
+
 pub record UnsafePlans : Type 0 where
-  -- run 0 of a task still has its core at instant 4, when run 1 starts
-  pub own_runs : Unsafe two (both (run_of 1 0 4 0 5 ∷ []) [])
-  -- two tasks have their first instant together at b, however late that is
-  pub late_runs : (b : ℕ) → Unsafe two (both (run_of 1 0 4 b 1 ∷ run_of 2 0 4 b 1 ∷ []) [])
-  -- at instant 5 two messages have one link; the tasks are apart, and each packet is on time
-  pub packets : Unsafe two (both (run_of 1 0 20 0 4 ∷ run_of 2 1 20 15 5 ∷ []) (packet_of 1 1 2 0 0 2 ∷ packet_of 2 1 2 0 1 2 ∷ []))
-  -- at instant 24 packets 0 and 1 of one message have the link, and each is on time
-  pub own_packets : Unsafe two (both (run_of 1 0 20 0 4 ∷ run_of 2 1 20 17 3 ∷ []) (packet_of 1 1 2 1 0 30 ∷ []))
-  -- packet b arrives 4 instants after the run starts that must read it, and none before it is late, however many these are
-  pub late_packet : (b : ℕ) → Unsafe two (both (run_of 1 0 20 0 4 ∷ run_of 2 1 20 (b * 20 + 5) 5 ∷ []) (packet_of 1 1 2 0 0 2 ∷ []))
+  -- run 0 of a task still has its core at b + 4, when run 1 starts
+  pub own_runs : (b : ℕ) → Unsafe two (both (run_of 1 0 4 b 5 ∷ []) [])
+  -- two tasks of different periods meet first at (b + 2) * (b + 2), by runs b + 2 and b + 1
+  pub late_runs : (b : ℕ) → Unsafe two (both (run_of 1 1 (b + 2) 0 1 ∷ run_of 2 1 (b + 3) 1 1 ∷ []) [])
+  -- two messages have one link first at b + 5; the tasks are apart, and each packet is on time
+  pub packets : (b : ℕ) → Unsafe two (both (run_of 1 0 (b + 20) b 4 ∷ run_of 2 1 (b + 20) (b + 15) 5 ∷ []) (packet_of 1 1 2 0 0 2 ∷ packet_of 2 1 2 0 1 2 ∷ []))
+  -- at b + b + 24 packets 0 and 1 of one message first have one link, and each is on time
+  pub own_packets : (b : ℕ) → Unsafe two (both (run_of 1 1 (b + 20) b 4 ∷ run_of 2 0 (b + 20) (b + 17) 3 ∷ []) (packet_of 1 1 2 1 0 (b + 30) ∷ []))
+  -- over two links each, of which they share one, two messages first have it at 2 + (b + 6) * (b + 6), by packets b + 6 and b + 5
+  pub late_packets :
+      (b : ℕ)
+      → Unsafe row (both (run_of 1 0 (b + 6) 0 1 ∷ run_of 2 2 (b + 6) 4 1 ∷ run_of 3 1 (b + 7) 0 1 ∷ run_of 4 3 (b + 7) 6 1 ∷ []) (packet_of 1 1 2 0 0 1 ∷ packet_of 2 3 4 0 2 1 ∷ []))
+  -- each packet arrives one instant after the run starts that must read it
+  pub just_late : Unsafe two (both (run_of 1 0 20 0 4 ∷ run_of 2 1 20 8 5 ∷ []) (packet_of 1 1 2 0 0 2 ∷ []))
+  -- each packet has one instant less than the one before it, and packet b is the first that is late
+  pub late_packet : (b : ℕ) → Unsafe two (both (run_of 1 0 (b + 10) 0 4 ∷ run_of 2 1 (b + 9) (b + 8) 1 ∷ []) (packet_of 1 1 2 0 0 2 ∷ []))
+  -- and by kind 1
+  pub late_next : (b : ℕ) → Unsafe two (both (run_of 1 0 (b + 11) 0 4 ∷ run_of 2 1 (b + 10) (b + 9) 1 ∷ []) (packet_of 1 1 2 1 (b + 9) 4 ∷ []))
