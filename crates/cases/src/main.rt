@@ -1,4 +1,4 @@
-// Judges a table of cases: on each line of standard input the size of a buffer, a space, and a plan file in hexadecimal.
+//! Judges a table of cases: on each line of standard input the size of a buffer, a space, and a plan file in hexadecimal.
 // Prints the verdict line on each, or the refusal of the buffer.
 #![tactic(auto)]
 

@@ -1,4 +1,4 @@
-// Prints the verdict line on the plan file that standard input holds.
+//! Prints the verdict line on the plan file that standard input holds.
 #![tactic(auto)]
 
 use anyhow::anyhow;

@@ -11,12 +11,11 @@ use Rattle.jobs.specs.declared.open.OpenTask.{OpenTask}
 use Rattle.jobs.specs.declared.open.OpenMessage.{OpenMessage}
 use Rattle.jobs.specs.Checks.{admitted_message, admitted_task}
 use Rattle.jobs.specs.Drops.{drop_message, drop_task, in_use}
-use Rattle.jobs.specs.Jobs.{Jobs, Setting, message_name, task_name, with_message, with_task, without_message, without_task}
+use Rattle.jobs.specs.Jobs.{In, Jobs, Setting, message_name, task_name, with_message, with_task, without_message, without_task}
 use Rattle.jobs.specs.Open.{message_at, task_at}
 use Rattle.jobs.specs.Placings.{first_delay, first_phase, place_message, place_task, placed}
 use Rattle.jobs.specs.Rules.{message_refusal, offer_message, offer_task, offered, task_refusal}
 use Rattle.promise.specs.Clean.{Distinct}
-use Rattle.jobs.specs.Jobs.{In}
 use Rattle.promise.proofs.Lists.{add_new, add_old, in_add, in_without, without_old}
 use Rattle.plan.specs.After.{Leaves, Less, MessageLess, MessageMore, More, TaskLess, TaskMore}
 

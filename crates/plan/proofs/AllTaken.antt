@@ -6,7 +6,7 @@ use Rattle.fabric.specs.Network.{IsFabric}
 use Rattle.records.specs.Named.{add, ascends}
 use Rattle.records.specs.declared.record.Task.{Task}
 use Rattle.records.specs.declared.record.Message.{Message}
-use Rattle.jobs.specs.Jobs.{Jobs, Setting, message_name, nothing, task_name, with_message, with_task}
+use Rattle.jobs.specs.Jobs.{In, Jobs, Setting, message_name, nothing, task_name, with_message, with_task}
 use Rattle.jobs.specs.Offered.{joined, refused}
 use Rattle.jobs.specs.declared.job.Job.{Job}
 use Rattle.jobs.specs.declared.job.Job.TheVariants as job
@@ -17,7 +17,6 @@ use Rattle.plan.specs.Held.{counts_of}
 use Rattle.plan.specs.Loading.{counted, in_turn, loaded, on_taken}
 use Rattle.promise.specs.Canonical.{Canonical}
 use Rattle.promise.specs.Clean.{Clean, Distinct, MessageMade, Safe}
-use Rattle.jobs.specs.Jobs.{In}
 use Rattle.promise.specs.Offers.{MessagePassed, Refused, TaskPassed}
 use Rattle.promise.proofs.Ascending.{add_last, ascends_below, distinct_left}
 use Rattle.promise.proofs.Lists.{in_left, in_nil, in_right}

@@ -10,10 +10,9 @@ use Rattle.records.specs.Sections.{cut_of, section_bytes, section_records}
 use Rattle.records.specs.declared.record.Task.{Task}
 use Rattle.records.specs.declared.record.Message.{Message}
 use Rattle.records.proofs.Back.{cut_back, records_back}
-use Rattle.jobs.specs.Jobs.{Jobs}
+use Rattle.jobs.specs.Jobs.{In, Jobs}
 use Rattle.plan.specs.Loading.{both_read, job_part, messages_cut, tasks_cut}
 use Rattle.plan.specs.Writing.{part_bytes}
-use Rattle.jobs.specs.Jobs.{In}
 
 -- each field of a task is below what its bytes can say
 pub record TaskSized (t : Task) : Type 0 where

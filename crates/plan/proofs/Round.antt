@@ -2,12 +2,11 @@
 use Rattle.std.proofs.Common.{◌≡◌, ℕ, ◌≤◌, Some, ap, ◌∙◌, arith}
 use Rattle.records.specs.declared.record.Task.{Task}
 use Rattle.records.specs.declared.record.Message.{Message}
-use Rattle.jobs.specs.Jobs.{Jobs, Setting, nothing, task_name, task_named}
+use Rattle.jobs.specs.Jobs.{In, Jobs, Setting, nothing, task_name, task_named}
 use Rattle.plan.specs.Loading.{loaded}
 use Rattle.plan.specs.Round.{RoundTrip}
 use Rattle.promise.specs.Canonical.{ShortNames}
 use Rattle.promise.specs.Clean.{Clean, TaskMade}
-use Rattle.jobs.specs.Jobs.{In}
 use Rattle.promise.proofs.Lists.{named_in}
 use Rattle.promise.proofs.Takes.{trip_parts}
 use Rattle.plan.proofs.Reading.{MessageSized, TaskSized, part_back}

@@ -17,7 +17,7 @@ use Rattle.jobs.specs.declared.open.OpenMessage.{OpenMessage}
 use Rattle.jobs.specs.Checks.{admitted_message, admitted_task}
 use Rattle.promise.proofs.Kept.{offered_kept, placed_kept}
 use Rattle.jobs.specs.Drops.{drop_message, drop_task, in_use}
-use Rattle.jobs.specs.Jobs.{Jobs, Setting, message_name, nothing, task_name, with_message, with_task}
+use Rattle.jobs.specs.Jobs.{In, Jobs, Setting, message_name, nothing, task_name, with_message, with_task}
 use Rattle.jobs.specs.Offered.{joined, refused}
 use Rattle.jobs.specs.declared.job.Job.{Job}
 use Rattle.jobs.specs.declared.job.Job.TheVariants as job
@@ -28,7 +28,6 @@ use Rattle.jobs.specs.Rules.{message_refusal, offer_message, offer_task, offered
 use Rattle.plan.specs.Loading.{both_read, file_order, in_turn, job_part, load, loaded, messages_cut, on_taken, tasks_cut}
 use Rattle.plan.specs.declared.fault.LayoutFault.{LayoutFault}
 use Rattle.promise.specs.Canonical.{ShortNames}
-use Rattle.jobs.specs.Jobs.{In}
 use Rattle.promise.proofs.Lists.{append_in, in_add, in_cases, in_here, in_nil, in_there, map_in, without_in}
 
 -- the name of a task fits in two bytes, and that of a message

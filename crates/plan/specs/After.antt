@@ -5,8 +5,7 @@
 use Rattle.std.specs.Prelude.{◌≡◌, ℕ, ◌⊎◌, ◌↔◌, List, Ok, Err, Result, ◌≢◌}
 use Rattle.records.specs.declared.record.Task.{Task}
 use Rattle.records.specs.declared.record.Message.{Message}
-use Rattle.jobs.specs.Jobs.{Jobs}
-use Rattle.jobs.specs.Jobs.{In}
+use Rattle.jobs.specs.Jobs.{In, Jobs}
 
 -- the new and those before, and no other
 abbrev pub Joined : {X : Type 0} → (X → Type 0) → List X → List X → Type 0

@@ -1,9 +1,8 @@
 -- Every call keeps the held names within two bytes, where its own name fits and what it loads are bytes; so does a list of such calls.
 use Rattle.std.proofs.Common.{ℕ, zero, suc, List, [], ◌∷◌, map, take, ⊎_elim, sym, refl, subst, arith}
 use Rattle.std.specs.List.{All}
-use Rattle.jobs.specs.Jobs.{Jobs, Setting}
+use Rattle.jobs.specs.Jobs.{In, Jobs, Setting}
 use Rattle.promise.specs.Canonical.{ShortNames}
-use Rattle.jobs.specs.Jobs.{In}
 use Rattle.promise.proofs.Lists.{in_cases, in_here, in_nil, in_there}
 use Rattle.plan.proofs.Short.{drop_message_short, drop_task_short, load_short, offer_message_short, offer_task_short, place_message_short, place_task_short}
 use Rattle.replay.specs.declared.calls.Call.TheVariants as call

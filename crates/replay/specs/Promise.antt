@@ -1,6 +1,7 @@
 -- Meaning. The main promise, over every lawful network: of one call on any clean plan, and of every list of calls on a new one.
 --   Promised, After        what is promised of the answer to a call, and of what is held after it
---   Promise            what is promised of a list of calls
+--   CallPromise, EachCall  what is promised of one call on any clean plan
+--   Promise, MainPromise   what is promised of a list of calls on a new plan
 use Rattle.std.specs.Prelude.{◌≡◌, ℕ, suc, ◌<◌, ◌≤◌, List, length, take, ℤ, Some, Ok, Err, Option, Result}
 use Rattle.std.specs.List.{slice_get}
 use Rattle.fabric.specs.Network.{IsFabric}
@@ -13,7 +14,7 @@ use Rattle.jobs.specs.declared.fault.MessageFault.{MessageFault}
 use Rattle.jobs.specs.declared.fault.DropFault.{DropFault}
 use Rattle.jobs.specs.declared.fault.PlaceFault.{PlaceFault}
 use Rattle.jobs.specs.declared.fault.PlacingFault.{PlacingFault}
-use Rattle.jobs.specs.Jobs.{Jobs, Setting, nothing}
+use Rattle.jobs.specs.Jobs.{In, Jobs, Setting, nothing}
 use Rattle.jobs.specs.Open.{message_at, task_at}
 use Rattle.plan.specs.After.{Leaves, MessageLess, MessageMore, TaskLess, TaskMore}
 use Rattle.plan.specs.Loading.{load}
@@ -23,7 +24,6 @@ use Rattle.plan.specs.declared.fault.LoadFault.{LoadFault}
 use Rattle.plan.specs.Round.{LoadsBack}
 use Rattle.promise.specs.Canonical.{Canonical, SameMembers, ShortNames}
 use Rattle.promise.specs.Clean.{Clean}
-use Rattle.jobs.specs.Jobs.{In}
 use Rattle.promise.specs.Droppings.{MessageDropped, TaskDropped}
 use Rattle.promise.specs.Offers.{MessageAnswer, MessagePlacing, TaskAnswer, TaskPlacing}
 use Rattle.promise.specs.Questions.{CoreAnswer, LinkAnswer, SlackAnswer}
