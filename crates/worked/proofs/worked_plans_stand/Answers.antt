@@ -11,7 +11,7 @@ use Rattle.worked.proofs.worked_plans_stand.Goals as goal
 -- every case by computing it
 plans : Worked
 unfolding first euclid gcd first_from busy gap digits
-plans = (refl, (refl, (refl, (refl, (refl, (refl, (refl, (refl, (refl, (refl, (refl, (refl, (refl, (refl, (refl, (refl, (refl, (refl, (refl, (refl, (refl, (refl, tt))))))))))))))))))))))
+plans = (refl, (refl, (refl, (refl, (refl, (refl, (refl, (refl, (refl, (refl, (refl, (refl, (refl, (refl, (refl, (refl, (refl, (refl, (refl, (refl, (refl, (refl, (refl, (refl, (refl, (refl, (refl, (refl, (refl, (refl, (refl, (refl, (refl, (refl, (refl, (refl, tt))))))))))))))))))))))))))))))))))))
 
 pub returns : goal.returns
 returns c = record { plans = plans; unsafe_plans = unsafe_plans }
