@@ -4,6 +4,7 @@ use Rattle.holds.specs.Gcd.{euclid, gcd}
 use Rattle.holds.specs.Search.{first_from}
 use Rattle.holds.specs.Span.{busy, gap}
 use Rattle.std.specs.Fmt.{digits}
+use Rattle.worked.specs.Refused.{Refused}
 use Rattle.worked.specs.Worked.{Worked}
 use Rattle.worked.proofs.Unsafe.{unsafe_plans}
 use Rattle.worked.proofs.worked_plans_stand.Goals as goal
@@ -13,5 +14,10 @@ plans : Worked
 unfolding first euclid gcd first_from busy gap digits
 plans = (refl, (refl, (refl, (refl, (refl, (refl, (refl, (refl, (refl, (refl, (refl, (refl, (refl, (refl, (refl, (refl, (refl, (refl, (refl, (refl, (refl, (refl, (refl, (refl, (refl, (refl, (refl, (refl, (refl, (refl, (refl, (refl, (refl, (refl, (refl, (refl, tt))))))))))))))))))))))))))))))))))))
 
+-- every refusal by computing it
+refusals : Refused
+unfolding first euclid gcd first_from busy gap digits
+refusals = (refl, (refl, (refl, (refl, (refl, (refl, (refl, (refl, (refl, (refl, (refl, (refl, (refl, (refl, (refl, (refl, (refl, (refl, (refl, (refl, (refl, (refl, (refl, (refl, (refl, (refl, (refl, (refl, (refl, (refl, (refl, (refl, (refl, (refl, (refl, (refl, (refl, (refl, (refl, (refl, (refl, (refl, (refl, (refl, (refl, (refl, (refl, (refl, tt))))))))))))))))))))))))))))))))))))))))))))))))
+
 pub returns : goal.returns
-returns c = record { plans = plans; unsafe_plans = unsafe_plans }
+returns c = record { plans = plans; refusals = refusals; unsafe_plans = unsafe_plans }
