@@ -1,3 +1,4 @@
 pub mod Worked
 pub mod Refused
+pub mod Printed
 pub mod Unsafe

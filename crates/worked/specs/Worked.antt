@@ -1,5 +1,6 @@
 -- Meaning. Plans that were worked by hand, with the answers found there.
-use Rattle.std.specs.Prelude.{◌≡◌, ℕ, List, [], ◌∷◌, ◌++◌, ℤ, pos, negsuc, Some, None, Ok, Err, codes}
+use Rattle.std.specs.Prelude.{◌≡◌, ℕ, List, [], ◌∷◌, ◌++◌, ℤ, pos, negsuc, Some, None, Ok, Err, Option, ◌⊎◌, codes}
+use Rattle.std.proofs.Common.{inl, inr}
 use Rattle.fabric.specs.Grid.{grid}
 use Rattle.jobs.specs.declared.fault.TaskFault.TheVariants as task_fault
 use Rattle.jobs.specs.declared.fault.MessageFault.TheVariants as message_fault
@@ -10,24 +11,35 @@ use Rattle.jobs.specs.Jobs.{Setting, created_on, nothing}
 use Rattle.jobs.specs.Places.{core, link}
 use Rattle.plan.specs.declared.fault.LoadFault.TheVariants as load_fault
 use Rattle.jobs.specs.declared.job.JobFault.TheVariants as job_fault
-use Rattle.refusals.specs.Lines.{line_text, too_short}
+use Rattle.refusals.specs.Lines.{line_text, refused_text, told_text, too_short}
+use Rattle.refusals.specs.declared.refusal.Refusal.{Refusal}
+use Rattle.refusals.specs.declared.refusal.Told.{Told}
 use Rattle.verdict.specs.Told.{verdict_line}
 use Rattle.verdict.specs.Verdict.{verdict_of}
 use Rattle.replay.specs.declared.calls.Answer.TheVariants as answer
 use Rattle.replay.specs.declared.calls.Call.TheVariants as call
-use Rattle.replay.specs.Calls.{Ask, Said, answers}
+use Rattle.replay.specs.Calls.{Ask, Said, answer_told, answers}
 
--- calls on a new plan with their answers in order, the route between two nodes, or a plan file with its verdict line
+-- calls on a new plan with their answers in order, the route between two nodes, a plan file with its verdict line, or an answer with what
+-- is printed of what it refuses
 pub data Case : Type 0 where
   calling : Setting → List Ask → List Said → Case
   routing : Setting → (from to : ℕ) → List ℕ → Case
   judging : (file line : List ℕ) → Case
+  telling : Said → (text : List ℕ) → Case
+
+-- the text of a refusal, and nothing of an answer that refuses nothing
+abbrev pub refusal_text : Option (Refusal ⊎ Told) → List ℕ
+refusal_text None = []
+refusal_text (Some (inl r)) = refused_text r
+refusal_text (Some (inr t)) = told_text t
 
 -- the definitions give what the case tells
 abbrev pub Gives : Case → Type 0
 Gives (calling g asks told) = answers g nothing asks ≡ told
 Gives (routing g a b links) = g.network.route a b ≡ Some links
 Gives (judging file line) = line_text (verdict_line (verdict_of file)) ≡ line
+Gives (telling said text) = refusal_text (answer_told said) ≡ text
 
 -- all cases of a list
 abbrev pub Give : List Case → Type 0

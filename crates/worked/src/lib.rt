@@ -1,6 +1,7 @@
 //! Plans worked by hand, shown of the definitions that the library's contracts cite.
 #![tactic(auto)]
 
+ghost use Rattle.worked.specs.Printed.{Printed};
 ghost use Rattle.worked.specs.Refused.{Refused};
 ghost use Rattle.worked.specs.Unsafe.{UnsafePlans};
 ghost use Rattle.worked.specs.Worked.{Worked};
@@ -9,5 +10,6 @@ ghost use Rattle.worked.specs.Worked.{Worked};
 pub fn worked_plans_stand()
     ensures plans { Worked }
     ensures refusals { Refused }
+    ensures prints { Printed }
     ensures unsafe_plans { UnsafePlans }
 {}

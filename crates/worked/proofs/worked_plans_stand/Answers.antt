@@ -4,6 +4,7 @@ use Rattle.holds.specs.Gcd.{euclid, gcd}
 use Rattle.holds.specs.Search.{first_from}
 use Rattle.holds.specs.Span.{busy, gap}
 use Rattle.std.specs.Fmt.{digits}
+use Rattle.worked.specs.Printed.{Printed}
 use Rattle.worked.specs.Refused.{Refused}
 use Rattle.worked.specs.Worked.{Worked}
 use Rattle.worked.proofs.Unsafe.{unsafe_plans}
@@ -19,5 +20,10 @@ refusals : Refused
 unfolding first euclid gcd first_from busy gap digits
 refusals = (refl, (refl, (refl, (refl, (refl, (refl, (refl, (refl, (refl, (refl, (refl, (refl, (refl, (refl, (refl, (refl, (refl, (refl, (refl, (refl, (refl, (refl, (refl, (refl, (refl, (refl, (refl, (refl, (refl, (refl, (refl, (refl, (refl, (refl, (refl, (refl, (refl, (refl, (refl, (refl, (refl, (refl, (refl, (refl, (refl, (refl, (refl, (refl, tt))))))))))))))))))))))))))))))))))))))))))))))))
 
+-- all that is printed by computing it
+prints : Printed
+unfolding first euclid gcd first_from busy gap digits
+prints = (refl, (refl, (refl, (refl, (refl, (refl, (refl, (refl, (refl, (refl, (refl, (refl, (refl, (refl, (refl, (refl, (refl, (refl, (refl, (refl, (refl, (refl, (refl, (refl, (refl, (refl, (refl, (refl, (refl, (refl, (refl, (refl, (refl, (refl, (refl, (refl, (refl, (refl, (refl, (refl, (refl, (refl, (refl, (refl, (refl, (refl, (refl, (refl, (refl, (refl, (refl, (refl, (refl, (refl, (refl, (refl, (refl, (refl, (refl, (refl, (refl, (refl, (refl, (refl, (refl, (refl, (refl, (refl, (refl, (refl, (refl, (refl, (refl, (refl, (refl, (refl, (refl, (refl, (refl, (refl, (refl, (refl, (refl, (refl, (refl, (refl, (refl, (refl, (refl, (refl, (refl, (refl, (refl, (refl, (refl, (refl, (refl, (refl, tt))))))))))))))))))))))))))))))))))))))))))))))))))))))))))))))))))))))))))))))))))))))))))))))))))
+
 pub returns : goal.returns
-returns c = record { plans = plans; refusals = refusals; unsafe_plans = unsafe_plans }
+returns c = record { plans = plans; refusals = refusals; prints = prints; unsafe_plans = unsafe_plans }
