@@ -1,5 +1,5 @@
 -- Meaning. Plans that were worked by hand, with the answers found there.
-use Rattle.std.specs.Prelude.{◌≡◌, ℕ, List, [], ◌∷◌, ◌++◌, ℤ, pos, negsuc, Some, None, Ok, Err, Option, ◌⊎◌, codes}
+use Rattle.std.specs.Prelude.{◌≡◌, ℕ, List, [], ◌∷◌, ◌++◌, map, ℤ, pos, negsuc, Some, None, Ok, Err, Option, ◌⊎◌, codes}
 use Rattle.std.proofs.Common.{inl, inr}
 use Rattle.fabric.specs.Grid.{grid}
 use Rattle.jobs.specs.declared.fault.TaskFault.TheVariants as task_fault
@@ -26,7 +26,7 @@ pub data Case : Type 0 where
   calling : Setting → List Ask → List Said → Case
   routing : Setting → (from to : ℕ) → List ℕ → Case
   judging : (file line : List ℕ) → Case
-  telling : Said → (text : List ℕ) → Case
+  telling : Said → (words : List ℕ) → Case
 
 -- the text of a refusal, and nothing of an answer that refuses nothing
 abbrev pub refusal_text : Option (Refusal ⊎ Told) → List ℕ
@@ -34,17 +34,29 @@ refusal_text None = []
 refusal_text (Some (inl r)) = refused_text r
 refusal_text (Some (inr t)) = told_text t
 
--- the definitions give what the case tells
-abbrev pub Gives : Case → Type 0
-Gives (calling g asks told) = answers g nothing asks ≡ told
-Gives (routing g a b links) = g.network.route a b ≡ Some links
-Gives (judging file line) = line_text (verdict_line (verdict_of file)) ≡ line
-Gives (telling said text) = refusal_text (answer_told said) ≡ text
+-- what a case asks for: answers, a route, or text
+pub data Found : Type 0 where
+  said : List Said → Found
+  route : Option (List ℕ) → Found
+  text : List ℕ → Found
 
--- all cases of a list
+-- what the definitions give for a case
+abbrev pub given : Case → Found
+given (calling g asks told) = said (answers g nothing asks)
+given (routing g a b links) = route (g.network.route a b)
+given (judging file line) = text (line_text (verdict_line (verdict_of file)))
+given (telling r words) = text (refusal_text (answer_told r))
+
+-- what was found by hand
+abbrev pub by_hand : Case → Found
+by_hand (calling g asks told) = said told
+by_hand (routing g a b links) = route (Some links)
+by_hand (judging file line) = text line
+by_hand (telling r words) = text words
+
+-- the two are the same for all cases of a list
 abbrev pub Give : List Case → Type 0
-Give [] = Unit {0}
-Give (c ∷ cs) = Gives c × Give cs
+Give cs = map given cs ≡ map by_hand cs
 
 -- a mesh of so many columns and rows with a hop delay
 abbrev pub mesh : ℕ → ℕ → ℕ → Setting
@@ -179,7 +191,8 @@ worked =
     ∷ routing (mesh 3 3 0) 0 5 (0 ∷ 4 ∷ 10 ∷ [])
     ∷ routing (mesh 3 3 0) 5 0 (21 ∷ 17 ∷ 15 ∷ [])
     -- on one core a message may have no slack, and no delay then
-    ∷ calling (mesh 1 1 0) (task 1 0 20 0 4 ∷ task 2 0 20 4 5 ∷ message 1 1 2 0 0 1 ∷ call.Slack 1 ∷ []) (task_taken ∷ task_taken ∷ message_taken ∷ slack (pos 0) ∷ [])
+    ∷ calling (mesh 1 1 0) (task 1 0 20 0 4 ∷ task 2 0 20 4 5 ∷ message 1 1 2 0 0 1 ∷ call.Slack 1 ∷ [])
+    (task_taken ∷ task_taken ∷ message_taken ∷ slack (pos 0) ∷ [])
     ∷ calling (mesh 1 1 0) (task 1 0 20 0 4 ∷ task 2 0 20 4 5 ∷ message 1 1 2 0 1 1 ∷ []) (task_taken ∷ task_taken ∷ late (negsuc 0) ∷ [])
     -- two nodes: slack 6 with no delay, 0 with delay 6, and late with delay 7
     ∷ calling (mesh 2 1 3) (call.Load (two_nodes 0) ∷ call.Slack 1 ∷ []) (all_loaded 2 1 ∷ slack (pos 6) ∷ [])
@@ -191,11 +204,13 @@ worked =
     ∷ judging (two_nodes_file 7) (codes "REFUSED 4 0 19 LATE -1\n")
     -- what was loaded is written, where it has the room, and in ascending names whatever the order of the offers
     ∷ calling (mesh 2 1 3) (call.Load (two_nodes 0) ∷ call.Write 51 ∷ call.Write 52 ∷ []) (all_loaded 2 1 ∷ no_room ∷ written (two_nodes 0) ∷ [])
-    ∷ calling (mesh 2 1 3) (task 2 1 20 15 5 ∷ task 1 0 20 0 4 ∷ message 1 1 2 0 0 2 ∷ call.Write 4096 ∷ []) (task_taken ∷ task_taken ∷ message_taken ∷ written (two_nodes 0) ∷ [])
+    ∷ calling (mesh 2 1 3) (task 2 1 20 15 5 ∷ task 1 0 20 0 4 ∷ message 1 1 2 0 0 2 ∷ call.Write 4096 ∷ [])
+    (task_taken ∷ task_taken ∷ message_taken ∷ written (two_nodes 0) ∷ [])
     -- a second message meets the first on its link, and is placed behind it
     ∷ calling (mesh 2 1 3) (call.Load (two_nodes 0) ∷ message 2 1 2 0 1 2 ∷ open_message 2 1 2 0 2 ∷ []) (all_loaded 2 1 ∷ message_meets 5 1 0 ∷ message_placed 2 ∷ [])
     -- to a faster reader the least slack is not that of packet 0, and by kind 1 there is a period more
-    ∷ calling (mesh 2 1 3) (task 1 0 20 0 4 ∷ task 2 1 8 5 1 ∷ message 1 1 2 0 0 2 ∷ message 1 1 2 1 0 2 ∷ call.Slack 1 ∷ []) (task_taken ∷ task_taken ∷ late (negsuc 7) ∷ message_taken ∷ slack (pos 12) ∷ [])
+    ∷ calling (mesh 2 1 3) (task 1 0 20 0 4 ∷ task 2 1 8 5 1 ∷ message 1 1 2 0 0 2 ∷ message 1 1 2 1 0 2 ∷ call.Slack 1 ∷ [])
+    (task_taken ∷ task_taken ∷ late (negsuc 7) ∷ message_taken ∷ slack (pos 12) ∷ [])
     -- on three links with delay 2 a message takes each 2 instants after the one before: others meet it at 6 on the second and at 9 on the third
     ∷ calling (mesh 3 3 2) (three_links ++ message 2 3 4 1 0 2 ∷ message 3 4 2 1 0 2 ∷ []) (three_taken ++ message_meets 6 1 4 ∷ message_meets 9 1 10 ∷ [])
     -- who has a core or a link, by the run or packet that has it; after its width it is free
@@ -238,7 +253,8 @@ worked =
     (all_loaded 2 1 ∷ unknown ∷ unknown ∷ in_use ∷ in_use ∷ dropped
     ∷ answer.Slack (Err drop_fault.Unknown) ∷ unknown ∷ dropped ∷ written (0 ∷ 1 ∷ task_bytes 1 0 20 0 4 ++ 0 ∷ 0 ∷ []) ∷ dropped ∷ written (0 ∷ 0 ∷ 0 ∷ 0 ∷ []) ∷ [])
     -- the task between two others is dropped, and those stay
-    ∷ calling (mesh 1 1 0) (task 1 0 20 0 4 ∷ task 2 0 20 4 5 ∷ task 3 0 20 10 5 ∷ call.DropTask 2 ∷ call.CoreHolder 0 0 ∷ call.CoreHolder 0 4 ∷ call.CoreHolder 0 10 ∷ [])
+    ∷ calling (mesh 1 1 0) (task 1 0 20 0 4 ∷ task 2 0 20 4 5 ∷ task 3 0 20 10 5 ∷ call.DropTask 2 ∷ call.CoreHolder 0 0 ∷ call.CoreHolder 0 4
+    ∷ call.CoreHolder 0 10 ∷ [])
     (task_taken ∷ task_taken ∷ task_taken ∷ dropped ∷ has 1 0 ∷ free ∷ has 3 0 ∷ [])
     ∷ []
 
