@@ -1,3 +1,4 @@
+pub mod Cases
 pub mod Worked
 pub mod Refused
 pub mod Printed

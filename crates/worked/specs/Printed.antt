@@ -3,33 +3,15 @@ use Rattle.std.specs.Prelude.{ℕ, List, [], ◌∷◌, ◌++◌, map, take, neg
 use Rattle.std.specs.List.{range_with_len}
 use Rattle.jobs.specs.declared.fault.TaskFault.TheVariants as task_fault
 use Rattle.jobs.specs.declared.fault.MessageFault.TheVariants as message_fault
-use Rattle.jobs.specs.declared.fault.PlacingFault.TheVariants as placing
 use Rattle.jobs.specs.declared.fault.DropFault.TheVariants as drop_fault
 use Rattle.jobs.specs.declared.job.JobFault.TheVariants as job_fault
 use Rattle.plan.specs.declared.fault.LayoutFault.TheVariants as layout
 use Rattle.plan.specs.declared.fault.LoadFault.TheVariants as load_fault
 use Rattle.replay.specs.declared.calls.Answer.TheVariants as answer
-use Rattle.worked.specs.Worked.{
-  Case,
-  Give,
-  judging,
-  telling,
-  task_meets,
-  message_meets,
-  late,
-  no_room,
-  no_place,
-  unknown,
-  in_use,
-  no_delay,
-  task_taken,
-  task_bytes,
-  message_bytes,
-  two_tasks,
-  two_nodes,
-  mesh_file,
-  two_nodes_file,
-}
+use Rattle.worked.specs.Cases.{Case, Give, judging, telling}
+use Rattle.worked.specs.Cases.{task_taken, task_meets, message_meets, late, no_phase, no_delay, in_use, unknown}
+use Rattle.worked.specs.Cases.{no_place, no_room}
+use Rattle.worked.specs.Cases.{task_bytes, message_bytes, two_tasks, two_nodes, mesh_file, two_nodes_file}
 use Rattle.worked.specs.Refused.{task_refused, message_refused, open_task_refused, open_message_refused, record_refused, no_task, no_message}
 
 -- files with one verdict line
@@ -173,7 +155,7 @@ texts =
     -- of a placing, a dropping, a slack, a holder and a write
     ∷ telling (open_task_refused task_fault.Full) (codes "REFUSED 12 FULL")
     ∷ telling (open_message_refused message_fault.NoRoute) (codes "REFUSED 17 NOROUTE")
-    ∷ telling (answer.TaskPlaced (Err placing.NoFit)) (codes "REFUSED 23 NOFIT")
+    ∷ telling no_phase (codes "REFUSED 23 NOFIT")
     ∷ telling no_delay (codes "REFUSED 23 NOFIT")
     ∷ telling unknown (codes "REFUSED 21 UNKNOWN")
     ∷ telling in_use (codes "REFUSED 22 INUSE")

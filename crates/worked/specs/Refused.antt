@@ -16,29 +16,11 @@ use Rattle.plan.specs.declared.fault.LoadFault.TheVariants as load_fault
 use Rattle.replay.specs.declared.calls.Answer.TheVariants as answer
 use Rattle.replay.specs.declared.calls.Call.TheVariants as call
 use Rattle.replay.specs.Calls.{Ask, Said}
-use Rattle.worked.specs.Worked.{
-  Case,
-  Give,
-  calling,
-  mesh,
-  task,
-  message,
-  open_task,
-  open_message,
-  task_taken,
-  message_taken,
-  all_loaded,
-  late,
-  written,
-  has,
-  free,
-  slack,
-  dropped,
-  task_bytes,
-  message_bytes,
-  two_tasks,
-  two_nodes,
-}
+use Rattle.worked.specs.Cases.{Case, Give, calling}
+use Rattle.worked.specs.Cases.{mesh, task, message, open_task, open_message}
+use Rattle.worked.specs.Cases.{task_taken, message_taken, late, dropped}
+use Rattle.worked.specs.Cases.{all_loaded, slack, has, free, written}
+use Rattle.worked.specs.Cases.{task_bytes, message_bytes, two_tasks, two_nodes}
 
 -- answers
 abbrev pub task_refused : TaskFault → Said

@@ -4,7 +4,7 @@ use Rattle.records.specs.declared.record.Task.{Task}
 use Rattle.records.specs.declared.record.Message.{Message}
 use Rattle.jobs.specs.Jobs.{Jobs, Setting}
 use Rattle.promise.specs.Clean.{Safe}
-use Rattle.worked.specs.Worked.{mesh}
+use Rattle.worked.specs.Cases.{mesh}
 
 abbrev pub Unsafe : Setting → Jobs → Type 0
 Unsafe g js = Safe g js → ⊥

@@ -1,156 +1,17 @@
 -- Meaning. Plans that were worked by hand, with the answers found there.
-use Rattle.std.specs.Prelude.{◌≡◌, ℕ, List, [], ◌∷◌, ◌++◌, map, ℤ, pos, negsuc, Some, None, Ok, Err, Option, ◌⊎◌, codes}
-use Rattle.std.proofs.Common.{inl, inr}
-use Rattle.fabric.specs.Grid.{grid}
-use Rattle.jobs.specs.declared.fault.TaskFault.TheVariants as task_fault
+use Rattle.std.specs.Prelude.{List, [], ◌∷◌, ◌++◌, pos, negsuc, Err, codes}
 use Rattle.jobs.specs.declared.fault.MessageFault.TheVariants as message_fault
-use Rattle.jobs.specs.declared.fault.PlacingFault.TheVariants as placing
 use Rattle.jobs.specs.declared.fault.DropFault.TheVariants as drop_fault
-use Rattle.jobs.specs.Holding.{no_place as no_such_place}
-use Rattle.jobs.specs.Jobs.{Setting, created_on, nothing}
-use Rattle.jobs.specs.Places.{core, link}
 use Rattle.plan.specs.declared.fault.LoadFault.TheVariants as load_fault
 use Rattle.jobs.specs.declared.job.JobFault.TheVariants as job_fault
-use Rattle.refusals.specs.Lines.{line_text, refused_text, told_text, too_short}
-use Rattle.refusals.specs.declared.refusal.Refusal.{Refusal}
-use Rattle.refusals.specs.declared.refusal.Told.{Told}
-use Rattle.verdict.specs.Told.{verdict_line}
-use Rattle.verdict.specs.Verdict.{verdict_of}
 use Rattle.replay.specs.declared.calls.Answer.TheVariants as answer
 use Rattle.replay.specs.declared.calls.Call.TheVariants as call
-use Rattle.replay.specs.Calls.{Ask, Said, answer_told, answers}
-
--- calls on a new plan with their answers in order, the route between two nodes, a plan file with its verdict line, or an answer with what
--- is printed of what it refuses
-pub data Case : Type 0 where
-  calling : Setting → List Ask → List Said → Case
-  routing : Setting → (from to : ℕ) → List ℕ → Case
-  judging : (file line : List ℕ) → Case
-  telling : Said → (words : List ℕ) → Case
-
--- the text of a refusal, and nothing of an answer that refuses nothing
-abbrev pub refusal_text : Option (Refusal ⊎ Told) → List ℕ
-refusal_text None = []
-refusal_text (Some (inl r)) = refused_text r
-refusal_text (Some (inr t)) = told_text t
-
--- what a case asks for: answers, a route, or text
-pub data Found : Type 0 where
-  said : List Said → Found
-  route : Option (List ℕ) → Found
-  text : List ℕ → Found
-
--- what the definitions give for a case
-abbrev pub given : Case → Found
-given (calling g asks told) = said (answers g nothing asks)
-given (routing g a b links) = route (g.network.route a b)
-given (judging file line) = text (line_text (verdict_line (verdict_of file)))
-given (telling r words) = text (refusal_text (answer_told r))
-
--- what was found by hand
-abbrev pub by_hand : Case → Found
-by_hand (calling g asks told) = said told
-by_hand (routing g a b links) = route (Some links)
-by_hand (judging file line) = text line
-by_hand (telling r words) = text words
-
--- the two are the same for all cases of a list
-abbrev pub Give : List Case → Type 0
-Give cs = map given cs ≡ map by_hand cs
-
--- a mesh of so many columns and rows with a hop delay
-abbrev pub mesh : ℕ → ℕ → ℕ → Setting
-mesh x y delay = created_on (grid x y delay)
-
--- jobs by name, core or tasks, and times
-abbrev pub task : (name core period phase width : ℕ) → Ask
-task n c p f w = call.OfferTask (record { name = n; core = c; period = p; phase = f; width = w })
-
-abbrev pub message : (name source destination kind delay width : ℕ) → Ask
-message n s d k delay w = call.OfferMessage (record { name = n; source = s; destination = d; kind = k; delay = delay; width = w })
-
-abbrev pub open_task : (name core period width : ℕ) → Ask
-open_task n c p w = call.PlaceTask (record { name = n; core = c; period = p; width = w })
-
-abbrev pub open_message : (name source destination kind width : ℕ) → Ask
-open_message n s d k w = call.PlaceMessage (record { name = n; source = s; destination = d; kind = k; width = w })
-
--- answers
-abbrev pub task_taken : Said
-task_taken = answer.TaskOffered (Ok tt)
-
-abbrev pub message_taken : Said
-message_taken = answer.MessageOffered (Ok tt)
-
-abbrev pub task_meets : (instant held place : ℕ) → Said
-task_meets n h p = answer.TaskOffered (Err (task_fault.Meets (record { instant = n; held = h; place = core p })))
-
-abbrev pub message_meets : (instant held place : ℕ) → Said
-message_meets n h p = answer.MessageOffered (Err (message_fault.Meets (record { instant = n; held = h; place = link p })))
-
-abbrev pub all_loaded : (tasks messages : ℕ) → Said
-all_loaded t m = answer.Loaded (Ok (record { tasks = t; messages = m }))
-
-abbrev pub late : ℤ → Said
-late v = answer.MessageOffered (Err (message_fault.Late v))
-
-abbrev pub written : List ℕ → Said
-written bytes = answer.Written (Ok bytes)
-
-abbrev pub no_room : Said
-no_room = answer.Written (Err too_short)
-
-abbrev pub task_placed : ℕ → Said
-task_placed phase = answer.TaskPlaced (Ok phase)
-
-abbrev pub message_placed : ℕ → Said
-message_placed delay = answer.MessagePlaced (Ok delay)
-
-abbrev pub no_delay : Said
-no_delay = answer.MessagePlaced (Err placing.NoFit)
-
-abbrev pub slack : ℤ → Said
-slack v = answer.Slack (Ok v)
-
-abbrev pub no_place : Said
-no_place = answer.Holder (Err no_such_place)
-
-abbrev pub unknown : Said
-unknown = answer.Dropped (Err drop_fault.Unknown)
-
-abbrev pub in_use : Said
-in_use = answer.Dropped (Err drop_fault.InUse)
-
-abbrev pub has : (name run : ℕ) → Said
-has n k = answer.Holder (Ok (Some (n, k)))
-
-abbrev pub free : Said
-free = answer.Holder (Ok None)
-
-abbrev pub dropped : Said
-dropped = answer.Dropped (Ok tt)
-
--- records as bytes, where no number is over 255
-abbrev pub task_bytes : (name core period phase width : ℕ) → List ℕ
-task_bytes n c p f w = 0 ∷ n ∷ c ∷ 0 ∷ 0 ∷ 0 ∷ 0 ∷ p ∷ 0 ∷ 0 ∷ 0 ∷ f ∷ 0 ∷ 0 ∷ 0 ∷ w ∷ []
-
-abbrev pub message_bytes : (name source destination kind delay width : ℕ) → List ℕ
-message_bytes n s d k delay w = 0 ∷ n ∷ 0 ∷ s ∷ 0 ∷ d ∷ k ∷ 0 ∷ 0 ∷ 0 ∷ 0 ∷ delay ∷ 0 ∷ 0 ∷ 0 ∷ w ∷ []
-
--- the section of two tasks on two nodes, and a job part with a message between them with a delay
-abbrev pub two_tasks : List ℕ
-two_tasks = 0 ∷ 2 ∷ task_bytes 1 0 20 0 4 ++ task_bytes 2 1 20 15 5
-
-abbrev pub two_nodes : ℕ → List ℕ
-two_nodes delay = two_tasks ++ 0 ∷ 1 ∷ message_bytes 1 1 2 0 delay 2
-
--- a file of a mesh of so many columns and rows with hop delay 3
-abbrev pub mesh_file : (x y : ℕ) → List ℕ → List ℕ
-mesh_file x y part = 1 ∷ 1 ∷ x ∷ y ∷ 3 ∷ 0 ∷ 0 ∷ 0 ∷ 0 ∷ 0 ∷ part
-
--- the whole file of two nodes
-abbrev pub two_nodes_file : ℕ → List ℕ
-two_nodes_file delay = mesh_file 2 1 (two_nodes delay)
+use Rattle.replay.specs.Calls.{Ask, Said}
+use Rattle.worked.specs.Cases.{Case, Give, calling, routing, judging}
+use Rattle.worked.specs.Cases.{mesh, task, message, open_task, open_message}
+use Rattle.worked.specs.Cases.{task_taken, message_taken, task_meets, message_meets, late, task_placed, message_placed, no_phase, no_delay, dropped, in_use, unknown}
+use Rattle.worked.specs.Cases.{all_loaded, slack, has, free, no_place, written, no_room}
+use Rattle.worked.specs.Cases.{task_bytes, message_bytes, two_tasks, two_nodes, two_nodes_file}
 
 -- on 3 by 3 nodes: tasks on nodes 0, 5, 1 and 2, and a message from the first to the second, over the links 0, 4 and 10
 abbrev pub three_links : List Ask
@@ -185,7 +46,7 @@ worked =
     ∷ calling (mesh 1 1 0) (task 1 0 4 0 1 ∷ task 2 0 6 2 1 ∷ []) (task_taken ∷ task_meets 8 1 0 ∷ [])
     -- one of period 9 meets it wherever it starts
     ∷ calling (mesh 1 1 0) (task 1 0 4 0 1 ∷ task 2 0 9 1 1 ∷ []) (task_taken ∷ task_meets 28 1 0 ∷ [])
-    ∷ calling (mesh 1 1 0) (task 1 0 4 0 1 ∷ open_task 2 0 9 1 ∷ []) (task_taken ∷ answer.TaskPlaced (Err placing.NoFit) ∷ [])
+    ∷ calling (mesh 1 1 0) (task 1 0 4 0 1 ∷ open_task 2 0 9 1 ∷ []) (task_taken ∷ no_phase ∷ [])
     ∷ calling (mesh 1 1 0) (task 1 0 4 0 1 ∷ open_task 2 0 6 1 ∷ []) (task_taken ∷ task_placed 1 ∷ [])
     -- routes go along x first
     ∷ routing (mesh 3 3 0) 0 5 (0 ∷ 4 ∷ 10 ∷ [])
@@ -256,6 +117,27 @@ worked =
     ∷ calling (mesh 1 1 0) (task 1 0 20 0 4 ∷ task 2 0 20 4 5 ∷ task 3 0 20 10 5 ∷ call.DropTask 2 ∷ call.CoreHolder 0 0 ∷ call.CoreHolder 0 4
     ∷ call.CoreHolder 0 10 ∷ [])
     (task_taken ∷ task_taken ∷ task_taken ∷ dropped ∷ has 1 0 ∷ free ∷ has 3 0 ∷ [])
+    -- two held messages met at one instant on two links: the smaller name is told; one met on three links: the smallest link
+    ∷ calling (mesh 3 1 0) (task 1 0 20 0 4 ∷ task 2 1 20 0 4 ∷ task 3 2 20 15 5 ∷ message 2 1 2 1 0 2 ∷ message 1 2 3 0 0 2 ∷ message 3 1 3 0 0 2 ∷ [])
+    (task_taken ∷ task_taken ∷ task_taken ∷ message_taken ∷ message_taken ∷ message_meets 4 1 4 ∷ [])
+    ∷ calling (mesh 3 3 0) (task 1 5 20 0 4 ∷ task 2 0 20 15 5 ∷ message 1 1 2 0 0 2 ∷ message 2 1 2 0 1 2 ∷ [])
+    (task_taken ∷ task_taken ∷ message_taken ∷ message_meets 5 1 15 ∷ [])
+    -- beside a width of 4 of 10 there is room for 6, from 4 on, and not for 7
+    ∷ calling (mesh 1 1 0) (task 1 0 10 0 4 ∷ open_task 2 0 10 7 ∷ open_task 2 0 10 6 ∷ call.CoreHolder 0 4 ∷ call.CoreHolder 0 19 ∷ [])
+    (task_taken ∷ no_phase ∷ task_placed 4 ∷ has 2 0 ∷ has 2 1 ∷ [])
+    -- beside one of 19 of 20, a packet of one instant has room by the greatest delay alone, and a second one has none
+    ∷ calling (mesh 2 1 3) (task 1 0 20 0 4 ∷ task 2 1 20 15 5 ∷ message 1 1 2 1 0 19 ∷ open_message 2 1 2 1 1 ∷ open_message 3 1 2 1 1 ∷ [])
+    (task_taken ∷ task_taken ∷ message_taken ∷ message_placed 19 ∷ no_delay ∷ [])
+    -- names in any order are held in ascending order
+    ∷ calling (mesh 1 1 0) (task 3 0 20 10 1 ∷ task 1 0 20 0 1 ∷ task 2 0 20 5 1 ∷ call.Write 52 ∷ [])
+    (task_taken ∷ task_taken ∷ task_taken ∷ written (0 ∷ 3 ∷ task_bytes 1 0 20 0 1 ++ task_bytes 2 0 20 5 1 ++ task_bytes 3 0 20 10 1 ++ 0 ∷ 0 ∷ []) ∷ [])
+    -- the link of a dropped message is free for another
+    ∷ calling (mesh 2 1 3) (call.Load (two_nodes 0) ∷ call.DropMessage 1 ∷ message 2 1 2 0 1 2 ∷ call.LinkHolder 0 4 ∷ call.LinkHolder 0 5 ∷ [])
+    (all_loaded 2 1 ∷ dropped ∷ message_taken ∷ free ∷ has 2 0 ∷ [])
+    -- among the last instants of 64 bits
+    ∷ calling (mesh 2 1 3) (call.Load (two_nodes 0) ∷ call.CoreHolder 0 18446744073709551603 ∷ call.LinkHolder 0 18446744073709551605
+    ∷ call.LinkHolder 0 18446744073709551606 ∷ [])
+    (all_loaded 2 1 ∷ has 1 922337203685477580 ∷ has 1 922337203685477580 ∷ free ∷ [])
     ∷ []
 
 -- the definitions give every case
