@@ -88,6 +88,10 @@ refused =
     ∷ beside (task 0 2 20 0 1 ∷ task 1 2 20 0 1 ∷ []) (task_refused task_fault.Name)
     ∷ beside (task 3 2 20 0 0 ∷ task 3 2 65537 0 1 ∷ []) (task_refused task_fault.Core)
     ∷ beside (task 3 0 20 2 19 ∷ task 3 0 65537 0 1 ∷ []) (task_refused task_fault.Times)
+    -- 12: 64 tasks are held; the times are looked at before this, and this before a meeting; with one task less there is room for one
+    ∷ calling (mesh 8 8 0)
+    (all_tasks ++ task 65 0 0 0 0 ∷ task 65 0 1 0 1 ∷ open_task 65 0 1 1 ∷ call.DropTask 64 ∷ task 65 63 1 0 1 ∷ [])
+    (map (λ _. task_taken) all_tasks ++ task_refused task_fault.Times ∷ task_refused task_fault.Full ∷ open_task_refused task_fault.Full ∷ dropped ∷ task_taken ∷ [])
     -- 14: the name 0, and a held name
     ∷ beside (message 0 1 2 1 2 2 ∷ message 1 1 2 1 2 2 ∷ []) (message_refused message_fault.Name)
     -- 15: a source or a destination that is not held
@@ -107,6 +111,11 @@ refused =
     ∷ beside (message 0 3 2 1 2 2 ∷ message 1 1 3 1 2 2 ∷ []) (message_refused message_fault.Name)
     ∷ beside (message 2 3 2 2 2 2 ∷ message 2 1 3 1 2 0 ∷ []) (message_refused message_fault.Ends)
     ∷ calling no_route (three_tasks ++ message 1 1 3 2 0 2 ∷ []) (three_taken ++ message_refused message_fault.Times ∷ [])
+    -- 18: 128 messages are held; the route is looked at before this, and this before lateness
+    ∷ calling no_route
+    (three_tasks ++ all_messages ++ message 129 1 3 1 0 2 ∷ message 129 1 2 0 1 1 ∷ open_message 129 1 2 0 1 ∷ call.DropMessage 128 ∷ message 129 1 2 0 0 1 ∷ [])
+    (three_taken ++ map (λ _. message_taken) all_messages
+    ++ message_refused message_fault.NoRoute ∷ message_refused message_fault.Full ∷ open_message_refused message_fault.Full ∷ dropped ∷ message_taken ∷ [])
     -- late by one instant and in the way at 4: late
     ∷ beside (message 2 1 2 0 0 9 ∷ []) (late (negsuc 0))
     -- placings are refused early as offers are, with the same checks in the same order
@@ -118,15 +127,6 @@ refused =
     ∷ beside (open_message 2 1 2 2 2 ∷ open_message 2 1 2 1 0 ∷ open_message 2 1 2 1 21 ∷ []) (open_message_refused message_fault.Times)
     ∷ calling no_route (three_tasks ++ open_message 1 1 3 1 2 ∷ open_message 1 1 3 2 2 ∷ [])
     (three_taken ++ open_message_refused message_fault.NoRoute ∷ open_message_refused message_fault.Times ∷ [])
-    -- 12: 64 tasks are held; the times are looked at before this, and this before a meeting; with one task less there is room for one
-    ∷ calling (mesh 8 8 0)
-    (all_tasks ++ task 65 0 0 0 0 ∷ task 65 0 1 0 1 ∷ open_task 65 0 1 1 ∷ call.DropTask 64 ∷ task 65 63 1 0 1 ∷ [])
-    (map (λ _. task_taken) all_tasks ++ task_refused task_fault.Times ∷ task_refused task_fault.Full ∷ open_task_refused task_fault.Full ∷ dropped ∷ task_taken ∷ [])
-    -- 18: 128 messages are held; the route is looked at before this, and this before lateness
-    ∷ calling no_route
-    (three_tasks ++ all_messages ++ message 129 1 3 1 0 2 ∷ message 129 1 2 0 1 1 ∷ open_message 129 1 2 0 1 ∷ call.DropMessage 128 ∷ message 129 1 2 0 0 1 ∷ [])
-    (three_taken ++ map (λ _. message_taken) all_messages
-    ++ message_refused message_fault.NoRoute ∷ message_refused message_fault.Full ∷ open_message_refused message_fault.Full ∷ dropped ∷ message_taken ∷ [])
     -- loads: names may descend, and what is written ascends
     ∷ calling (mesh 2 1 3)
     (call.Load (0 ∷ 2 ∷ task_bytes 2 1 20 15 5 ++ task_bytes 1 0 20 0 4 ++ 0 ∷ 2 ∷ message_bytes 2 1 2 0 2 2 ++ message_bytes 1 1 2 0 0 2) ∷ call.Write 68 ∷ [])
@@ -156,7 +156,7 @@ refused =
     ∷ loading (0 ∷ 1 ∷ no_task ++ 0 ∷ 0 ∷ 0 ∷ []) layout.Extra
     ∷ loading (0 ∷ 1 ∷ no_task ++ 0 ∷ 1 ∷ no_message) (layout.NoTask 0)
     ∷ loading (0 ∷ 1 ∷ task_bytes 0 0 20 0 4 ++ 0 ∷ 1 ∷ no_message) (layout.NoMessage 0)
-    -- a task on no core is refused, and the one before it is held; and so a message in the way
+    -- a task on no core is refused, and the one before it is held; and so it is with a message from a task that is not held
     ∷ calling (mesh 2 1 3) (call.Load (0 ∷ 2 ∷ task_bytes 1 0 20 0 4 ++ task_bytes 2 2 20 15 5 ++ 0 ∷ 0 ∷ []) ∷ call.CoreHolder 0 3 ∷ call.Write 20 ∷ [])
     (record_refused 1 (job_fault.Task task_fault.Core) ∷ has 1 0 ∷ written (0 ∷ 1 ∷ task_bytes 1 0 20 0 4 ++ 0 ∷ 0 ∷ []) ∷ [])
     ∷ calling (mesh 2 1 3) (call.Load (two_tasks ++ 0 ∷ 2 ∷ message_bytes 1 1 2 0 0 2 ++ message_bytes 2 3 2 0 2 2) ∷ call.Write 52 ∷ [])
