@@ -125,6 +125,9 @@ lines =
     ∷ judging (one_message 1 3 2 0 0 2) (codes "REFUSED 4 0 15 ENDS\n")
     ∷ judging (one_message 1 1 2 0 0 0) (codes "REFUSED 4 0 16 TIMES\n")
     ∷ judging (mesh_file 2 1 (two_tasks ++ 0 ∷ 2 ∷ message_bytes 1 1 2 0 0 2 ++ message_bytes 2 1 2 0 1 2)) (codes "REFUSED 4 1 20 MEETS 5 1 0\n")
+    -- records are offered in the order of the file, whatever their names
+    ∷ judging (mesh_file 1 1 (0 ∷ 2 ∷ task_bytes 2 0 10 0 4 ++ task_bytes 1 0 10 3 2 ++ 0 ∷ 0 ∷ [])) (codes "REFUSED 3 1 13 MEETS 3 2 0\n")
+    ∷ judging (mesh_file 2 1 (two_tasks ++ 0 ∷ 2 ∷ message_bytes 2 1 2 0 0 2 ++ message_bytes 1 1 2 0 1 2)) (codes "REFUSED 4 1 20 MEETS 5 2 0\n")
     -- records that are none, and a byte too many
     ∷ judging (mesh_file 2 1 (0 ∷ 2 ∷ task_bytes 1 0 20 0 4 ++ no_task ++ 0 ∷ 0 ∷ [])) (codes "REFUSED 3 1 24 RECORD\n")
     ∷ judging (mesh_file 2 1 (two_tasks ++ 0 ∷ 1 ∷ no_message)) (codes "REFUSED 4 0 24 RECORD\n")

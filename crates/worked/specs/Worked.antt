@@ -128,6 +128,11 @@ worked =
     -- beside one of 19 of 20, a packet of one instant has room by the greatest delay alone, and a second one has none
     ∷ calling (mesh 2 1 3) (task 1 0 20 0 4 ∷ task 2 1 20 15 5 ∷ message 1 1 2 1 0 19 ∷ open_message 2 1 2 1 1 ∷ open_message 3 1 2 1 1 ∷ [])
     (task_taken ∷ task_taken ∷ message_taken ∷ message_placed 19 ∷ no_delay ∷ [])
+    -- a message is placed with no slack where each delay before has the link taken, and not one instant later
+    ∷ calling (mesh 2 1 3) (task 1 0 20 0 4 ∷ task 2 1 20 15 5 ∷ message 1 1 2 1 0 6 ∷ open_message 2 1 2 0 2 ∷ call.Slack 2 ∷ [])
+    (task_taken ∷ task_taken ∷ message_taken ∷ message_placed 6 ∷ slack (pos 0) ∷ [])
+    ∷ calling (mesh 2 1 3) (task 1 0 20 0 4 ∷ task 2 1 20 15 5 ∷ message 1 1 2 1 0 7 ∷ open_message 2 1 2 0 2 ∷ [])
+    (task_taken ∷ task_taken ∷ message_taken ∷ no_delay ∷ [])
     -- names in any order are held in ascending order
     ∷ calling (mesh 1 1 0) (task 3 0 20 10 1 ∷ task 1 0 20 0 1 ∷ task 2 0 20 5 1 ∷ call.Write 52 ∷ [])
     (task_taken ∷ task_taken ∷ task_taken ∷ written (0 ∷ 3 ∷ task_bytes 1 0 20 0 1 ++ task_bytes 2 0 20 5 1 ++ task_bytes 3 0 20 10 1 ++ 0 ∷ 0 ∷ []) ∷ [])
