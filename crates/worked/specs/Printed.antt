@@ -102,7 +102,9 @@ lines =
     ∷ of_route (route_bytes 0 1 1 0 1 0 0) ∷ of_route (route_bytes 0 1 1 0 0 0 1) ∷ []) (codes "REFUSED 2 0 6 ROUTE\n")
     -- a route that begins or ends elsewhere, has a gap, or has a link twice
     ++ alike (of_route (route_bytes 1 0 1 0 0 0 0) ∷ two_links (0 ∷ 1 ∷ route_bytes 0 1 2 0 0 1 0)
-    ∷ of_route (route_bytes 0 1 2 0 0 0 0) ∷ two_links (0 ∷ 1 ∷ route_bytes 0 1 3 0 0 1 0) ∷ []) (codes "REFUSED 2 0 7 CHAIN\n")
+    ∷ of_route (route_bytes 0 1 2 0 0 0 0) ∷ two_links (0 ∷ 1 ∷ route_bytes 0 1 3 0 0 1 0)
+    ∷ listed_file 3 (0 ∷ 2 ∷ 0 ∷ 1 ∷ 1 ∷ 2 ∷ 0 ∷ 1 ∷ route_bytes 0 2 1 0 1 0 0)
+    ∷ listed_file 4 (0 ∷ 2 ∷ 0 ∷ 1 ∷ 2 ∷ 3 ∷ 0 ∷ 1 ∷ route_bytes 0 3 2 0 0 1 0) ∷ []) (codes "REFUSED 2 0 7 CHAIN\n")
     -- routes that do not ascend; a record's own faults come before its order, and all of them before the next record
     ++ judging (one_link (0 ∷ 2 ∷ route_bytes 0 1 1 0 0 0 0 ++ route_bytes 0 1 1 0 0 0 0)) (codes "REFUSED 2 1 8 ORDER\n")
     ∷ judging (two_links (0 ∷ 2 ∷ route_bytes 1 0 1 0 1 0 0 ++ route_bytes 0 1 1 0 0 0 0)) (codes "REFUSED 2 1 8 ORDER\n")

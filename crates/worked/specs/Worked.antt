@@ -72,6 +72,12 @@ worked =
     -- to a faster reader the least slack is not that of packet 0, and by kind 1 there is a period more
     ∷ calling (mesh 2 1 3) (task 1 0 20 0 4 ∷ task 2 1 8 5 1 ∷ message 1 1 2 0 0 2 ∷ message 1 1 2 1 0 2 ∷ call.Slack 1 ∷ [])
     (task_taken ∷ task_taken ∷ late (negsuc 7) ∷ message_taken ∷ slack (pos 12) ∷ [])
+    -- its packets are apart by the source's period
+    ∷ calling (mesh 2 1 3) (task 1 0 20 0 4 ∷ task 2 1 8 5 1 ∷ message 1 1 2 1 0 2 ∷ call.LinkHolder 0 12 ∷ call.LinkHolder 0 24 ∷ [])
+    (task_taken ∷ task_taken ∷ message_taken ∷ free ∷ has 1 1 ∷ [])
+    -- a run that starts when a packet is due reads it: the first by kind 0, and the second, at 20, by kind 1
+    ∷ calling (mesh 2 1 3) (task 1 0 20 0 4 ∷ task 2 1 20 0 4 ∷ message 1 1 2 0 0 2 ∷ message 1 1 2 1 0 2 ∷ call.Slack 1 ∷ [])
+    (task_taken ∷ task_taken ∷ late (negsuc 8) ∷ message_taken ∷ slack (pos 11) ∷ [])
     -- on three links with delay 2 a message takes each 2 instants after the one before: others meet it at 6 on the second and at 9 on the third
     ∷ calling (mesh 3 3 2) (three_links ++ message 2 3 4 1 0 2 ∷ message 3 4 2 1 0 2 ∷ []) (three_taken ++ message_meets 6 1 4 ∷ message_meets 9 1 10 ∷ [])
     -- who has a core or a link, by the run or packet that has it; after its width it is free
@@ -136,6 +142,9 @@ worked =
     -- names in any order are held in ascending order
     ∷ calling (mesh 1 1 0) (task 3 0 20 10 1 ∷ task 1 0 20 0 1 ∷ task 2 0 20 5 1 ∷ call.Write 52 ∷ [])
     (task_taken ∷ task_taken ∷ task_taken ∷ written (0 ∷ 3 ∷ task_bytes 1 0 20 0 1 ++ task_bytes 2 0 20 5 1 ++ task_bytes 3 0 20 10 1 ++ 0 ∷ 0 ∷ []) ∷ [])
+    -- the first of two messages is dropped, and the other stays
+    ∷ calling (mesh 2 1 3) (call.Load (two_nodes 0) ∷ open_message 2 1 2 0 2 ∷ call.DropMessage 1 ∷ call.LinkHolder 0 4 ∷ call.LinkHolder 0 6 ∷ call.Slack 2 ∷ [])
+    (all_loaded 2 1 ∷ message_placed 2 ∷ dropped ∷ free ∷ has 2 0 ∷ slack (pos 4) ∷ [])
     -- the link of a dropped message is free for another
     ∷ calling (mesh 2 1 3) (call.Load (two_nodes 0) ∷ call.DropMessage 1 ∷ message 2 1 2 0 1 2 ∷ call.LinkHolder 0 4 ∷ call.LinkHolder 0 5 ∷ [])
     (all_loaded 2 1 ∷ dropped ∷ message_taken ∷ free ∷ has 2 0 ∷ [])
