@@ -74,10 +74,12 @@ pub(crate) fn nearest_to(
 ) -> Option<Meeting>
     ensures { result ≡ earliest_from best (map (λ x. met name x (stay_take held.now)) (map stay_take own.now)) }
 {
-    own.iter().fold(
-        best,
-        |best, stay| earlier(best, meeting_at(name, stay, held)),
-    )
+    let mut best = best;
+    // a loop, since a `fold` is not inlined
+    for stay in own {
+        best = earlier(best, meeting_at(name, stay, held));
+    }
+    best
 }
 
 // The first meeting of an offered job's stays with those of the held jobs.
