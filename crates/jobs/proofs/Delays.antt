@@ -1,5 +1,5 @@
 -- A message whose delay grows: what refuses it, and for how long.
-use Rattle.std.proofs.Common.{◌≡◌, ℕ, ◌+◌, ◌*◌, ◌<◌, ◌≤◌, Bool, true, false, List, map, length, min, ℤ, pos, negsuc, nat_abs, Some, None, Option, sym, refl, ap, ◌∙◌, subst, le_refl, zero-add, arith}
+use Rattle.std.proofs.Common.{◌≡◌, ℕ, ◌+◌, ◌<◌, ◌≤◌, Bool, true, false, List, map, length, min, ℤ, pos, negsuc, nat_abs, Some, None, Option, sym, refl, ap, ◌∙◌, subst, le_refl, arith}
 use Rattle.std.specs.Option.{option_map}
 use Rattle.std.specs.Prelude.{int_lt, is_none}
 use Rattle.std.proofs.lemmas.Int.{ints}
@@ -20,11 +20,11 @@ use Rattle.jobs.specs.Meetings.{HeldJob, first_met, held_message}
 use Rattle.jobs.specs.Open.{message_at}
 use Rattle.jobs.specs.Routings.{IsAdmitted, trip_along}
 use Rattle.jobs.specs.Rules.{late, packet_refusal}
-use Rattle.jobs.specs.Slacks.{lateness, message_slack, slack_of}
+use Rattle.jobs.specs.Slacks.{message_slack, slack_of}
 use Rattle.jobs.specs.Takes.{packet_takes, route_takes, task_hold}
 use Rattle.jobs.specs.Timing.{arrival, departure, due, travel}
-use Rattle.jobs.specs.Trips.{Trip, message_flow}
-use Rattle.jobs.specs.Waits.{InTime, StillMet, put_off}
+use Rattle.jobs.specs.Trips.{Trip}
+use Rattle.jobs.specs.Waits.{DelaysInTime, StillMet, put_off}
 use Rattle.jobs.specs.Ways.{IsWay, way_slack, way_takes}
 use Rattle.jobs.proofs.Limits.{arrives_near}
 use Rattle.jobs.proofs.Searches.{FailsFrom}
@@ -82,7 +82,7 @@ module _ (g : Setting) (js : Jobs) (t : Trip) (m : OpenMessage) where
   held = map (held_message g js.tasks) js.messages
 
   -- past the delays that are in time all are refused
-  pub past_late : (n : ℕ) → InTime g.network t m n → (y : ℕ) → n ≤ y → y < t.source.period → free y ≡ false
+  pub past_late : (n : ℕ) → DelaysInTime g.network t m n → (y : ℕ) → n ≤ y → y < t.source.period → free y ≡ false
   past_late n covers y h l = late_refuses _ _ (covers.late y h l)
 
   -- against the way of the message at one delay
@@ -91,7 +91,7 @@ module _ (g : Setting) (js : Jobs) (t : Trip) (m : OpenMessage) where
     takes_is = way_is g.network t (message_at m v) w is
 
     -- neither late nor met
-    pub way_free : (n : ℕ) → InTime g.network t m n → v < n → None ≡ first_met (way_takes g.network w) held → free v ≡ true
+    pub way_free : (n : ℕ) → DelaysInTime g.network t m n → v < n → None ≡ first_met (way_takes g.network w) held → free v ≡ true
     way_free n covers h clear-way =
         ap (λ o. is_none (late o (option_map message_fault.Meets (first_met (packet_takes g.network t (message_at m v)) held)))) (covers.in_time v h)
         ∙ ap (λ o. is_none (option_map message_fault.Meets o)) (ap (λ ts. first_met ts held) (sym takes_is) ∙ sym clear-way)
@@ -144,7 +144,7 @@ module _ (net : Network) (t : Trip) (m : OpenMessage) (w : Way) (is : IsWay net 
       (after_delay by t.source.period (task_hold t.destination) now n
       (omega (arith, near, long, start, soon, later, arrives_near (departure t.source (message_at m n)) (length t.route) far m.width))))
 
-  pub never_late : way_slack w m.kind t.destination ≡ None → InTime net t m t.source.period
+  pub never_late : way_slack w m.kind t.destination ≡ None → DelaysInTime net t m t.source.period
   never_late none =
       record {
         within = le_refl t.source.period;
@@ -152,7 +152,7 @@ module _ (net : Network) (t : Trip) (m : OpenMessage) (w : Way) (is : IsWay net 
         late = λ v h k. absurd (omega (arith, h, k));
       }
 
-  always_late : (z : ℤ) → way_slack w m.kind t.destination ≡ Some z → int_lt z (pos 0) ≡ true → InTime net t m 0
+  always_late : (z : ℤ) → way_slack w m.kind t.destination ≡ Some z → int_lt z (pos 0) ≡ true → DelaysInTime net t m 0
   always_late z some below =
       record {
         within = omega arith;
@@ -160,7 +160,7 @@ module _ (net : Network) (t : Trip) (m : OpenMessage) (w : Way) (is : IsWay net 
         late = λ v h k. (subst (λ o. LateBy v o (message_slack net t (message_at m v))) some (by_delay v (omega (arith, k, few)))).0 (grind (arith, ints, below));
       }
 
-  spare_as : (k n : ℕ) → way_slack w m.kind t.destination ≡ Some (pos k) → n ≡ min (k + 1) t.source.period → InTime net t m n
+  spare_as : (k n : ℕ) → way_slack w m.kind t.destination ≡ Some (pos k) → n ≡ min (k + 1) t.source.period → DelaysInTime net t m n
   spare_as k n some is =
       record {
         within = omega (arith, is);
@@ -169,6 +169,6 @@ module _ (net : Network) (t : Trip) (m : OpenMessage) (w : Way) (is : IsWay net 
       }
 
   pub covered : (z : ℤ) (n : ℕ) → way_slack w m.kind t.destination ≡ Some z → (int_lt z (pos 0) ≡ true → n ≡ 0) → (int_lt z (pos 0) ≡ false → n ≡ min (nat_abs z + 1) t.source.period)
-      → InTime net t m n
+      → DelaysInTime net t m n
   covered (pos k) n some none enough = spare_as k n some (enough (grind (arith, ints)))
-  covered (negsuc k) n some none enough = subst (InTime net t m) (sym (none refl)) (always_late (negsuc k) some refl)
+  covered (negsuc k) n some none enough = subst (DelaysInTime net t m) (sym (none refl)) (always_late (negsuc k) some refl)

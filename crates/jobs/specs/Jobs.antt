@@ -1,4 +1,4 @@
--- Meaning. What is held, tasks and messages, each in ascending names; and what a plan is created with.
+-- Meaning. What is held, tasks and messages, which a plan keeps in ascending names; and what a plan is created with.
 use Rattle.std.specs.Prelude.{◌≡◌, ℕ, List, [], Some, Option}
 use Rattle.std.specs.List.{slice_get}
 use Rattle.records.specs.Named.{named, add, without}

@@ -1,5 +1,5 @@
 -- Rule. Offers: past the earlier checks a task is refused for a meeting, a message as late or else for a meeting.
-use Rattle.std.specs.Prelude.{ℕ, List, map, ℤ, Some, None, Ok, Err, Option, Result}
+use Rattle.std.specs.Prelude.{ℕ, map, ℤ, Some, None, Ok, Err, Option, Result}
 use Rattle.std.specs.Option.{option_map}
 use Rattle.records.specs.declared.record.Task.{Task}
 use Rattle.records.specs.declared.record.Message.{Message}

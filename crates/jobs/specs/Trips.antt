@@ -1,6 +1,6 @@
 -- Meaning. The trip of a message's packets: the tasks that it names, as they are held, and the route between their cores.
 use Rattle.std.specs.Prelude.{ℕ, List, length, Some, None, Option}
-use Rattle.std.specs.Option.{option_and_then, option_map}
+use Rattle.std.specs.Option.{option_map}
 use Rattle.holds.specs.Slack.{Flow}
 use Rattle.records.specs.declared.record.Task.{Task}
 use Rattle.records.specs.declared.record.Message.{Message}

@@ -40,7 +40,7 @@ abbrev pub late_at : Network → Trip → OpenMessage → ℕ → Option ℤ
 late_at net t m v = lateness (message_slack net t (message_at m v))
 
 -- the first n delays are in time, and all others below the source's period late
-pub record InTime (net : Network) (t : Trip) (m : OpenMessage) (n : ℕ) : Type 0 where
+pub record DelaysInTime (net : Network) (t : Trip) (m : OpenMessage) (n : ℕ) : Type 0 where
   pub within : n ≤ t.source.period
   pub in_time : (v : ℕ) → v < n → late_at net t m v ≡ None
   pub late : (v : ℕ) → n ≤ v → v < t.source.period → is_none (late_at net t m v) ≡ false

@@ -9,7 +9,7 @@ ghost use Rattle.jobs.specs.Slacks.{lateness, slack_among};
 ghost use Rattle.jobs.specs.Takes.{message_takes};
 ghost use Rattle.jobs.specs.Timing.{arrival};
 ghost use Rattle.jobs.specs.Trips.{Trip};
-ghost use Rattle.jobs.specs.Waits.{InTime};
+ghost use Rattle.jobs.specs.Waits.{DelaysInTime};
 ghost use Rattle.jobs.specs.Ways.{takes_on, way_slack, way_takes};
 ghost use Rattle.std.specs.Prelude.{◌≡◌, ◌+◌, ◌≤◌, true, false, min, pos, nat_abs, int_lt};
 
@@ -70,7 +70,7 @@ fn delays_within(slack: i64, period: u32) -> u32
 
 // How many delays of a message, from 0 on, are in time: each cycle of delay costs one of the slack that it has with none.
 pub(crate) fn delays_in_time(at_once: &Admitted, m: &OpenMessage) -> u32
-    ensures { (net : Network) (t : Trip) → IsAdmitted net t (message_at m.now 0) at_once.now → InTime net t m.now result }
+    ensures { (net : Network) (t : Trip) → IsAdmitted net t (message_at m.now 0) at_once.now → DelaysInTime net t m.now result }
 {
     let all = at_once.ends.source.period;
     let Some(slack) = slack_on(&at_once.way, m.kind, &at_once.ends.destination) else {

@@ -22,6 +22,7 @@ pub struct Way {
     pub(crate) travel: u64,
     pub(crate) period: u32,
     pub(crate) width: u32,
+    // phase, width and delay have 32 bits each, and a route has at most 64 links of at most 64 cycles
     ghost soon: { start ≤ 17179869184 },
     ghost near: { travel ≤ 4096 },
     ghost narrow: { width < 4294967296 },
