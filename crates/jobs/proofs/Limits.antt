@@ -1,5 +1,5 @@
 -- Within the limits of tasks and messages every claim is a hold, and the least slack is the formula's.
-use Rattle.std.proofs.Common.{◌≡◌, ℕ, zero, suc, ◌+◌, ◌*◌, ◌%◌, ◌<◌, ◌≤◌, true, eqb, cond, ◌==◌, List, [], ◌∷◌, length, pos, take, ◌-ℤ◌, Some, refl, ap, ◌∙◌, subst, suc-mul, mul-le-mul, arith}
+use Rattle.std.proofs.Common.{◌≡◌, ℕ, zero, suc, ◌+◌, ◌*◌, ◌%◌, ◌<◌, ◌≤◌, true, eqb, cond, ◌==◌, List, [], ◌∷◌, length, pos, ◌-ℤ◌, Some, refl, ap, ◌∙◌, subst, suc-mul, mul-le-mul, arith}
 use Rattle.std.specs.List.{slice_get}
 use Rattle.std.specs.Option.{option_map}
 use Rattle.std.proofs.lemmas.Bool.Decides.{nat_tests}

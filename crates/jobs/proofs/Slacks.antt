@@ -1,5 +1,5 @@
 -- The slack that the rule gives a held message is the least over all of its packets.
-use Rattle.std.proofs.Common.{◌≡◌, ℕ, ◌<◌, ◌&&◌, ltb, leb, List, ℤ, Some, None, Option, sym, refl, subst, arith}
+use Rattle.std.proofs.Common.{◌≡◌, ℕ, ◌<◌, ◌&&◌, ltb, leb, ℤ, Some, None, Option, sym, refl, subst, arith}
 use Rattle.std.proofs.lemmas.Bool.{and_parts, ltb-true}
 use Rattle.std.proofs.lemmas.Option.{cond_some, option_and_then_some}
 use Rattle.holds.specs.Span.{Span}
@@ -10,12 +10,11 @@ use Rattle.holds.proofs.Limits.{spanned_proper}
 use Rattle.holds.proofs.Reading.{slack_is_least}
 use Rattle.records.specs.Named.{named}
 use Rattle.records.specs.declared.record.Task.{Task}
-use Rattle.records.specs.declared.record.Message.{Message}
 use Rattle.jobs.specs.Jobs.{Setting, Jobs, message_name}
 use Rattle.jobs.specs.Slacks.{HeldSlack, flow_slack, message_slack, slack_among, slack_held, slack_of}
 use Rattle.jobs.specs.Takes.{task_hold}
 use Rattle.jobs.specs.Timing.{task_span}
-use Rattle.jobs.specs.Trips.{Trip, message_flow, trip_of}
+use Rattle.jobs.specs.Trips.{message_flow, trip_of}
 
 flow_is : (a d p : ℕ) (f : Flow) → flowing a d p ≡ Some f → (record { arrival = a; due = d; period = p } ≡ f) × (0 < p)
 flow_is a d p f e =

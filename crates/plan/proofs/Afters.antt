@@ -1,5 +1,5 @@
 -- What is held after a call, by its answer.
-use Rattle.std.proofs.Common.{◌≡◌, ℕ, Bool, true, false, cond, List, is_some, Some, None, Ok, Err, Option, Result, sym, refl, subst, inl, inr, ⊎_elim}
+use Rattle.std.proofs.Common.{ℕ, Bool, true, false, cond, List, is_some, Some, None, Ok, Err, Option, Result, sym, refl, subst, ⊎_elim}
 use Rattle.records.specs.Named.{add, index_of, without}
 use Rattle.records.specs.declared.record.Task.{Task}
 use Rattle.records.specs.declared.record.Message.{Message}

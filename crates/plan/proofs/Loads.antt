@@ -1,5 +1,5 @@
 -- What each taken job keeps, loads keep: clean plans stay clean, and names ascend.
-use Rattle.std.proofs.Common.{◌≡◌, ℕ, ◌+◌, ◌≤◌, List, [], ◌∷◌, Some, None, Ok, Err, Option, Result, refl}
+use Rattle.std.proofs.Common.{◌≡◌, ℕ, ◌+◌, List, [], ◌∷◌, Some, None, Ok, Err, Option, Result, refl}
 use Rattle.std.specs.Option.{option_map}
 use Rattle.fabric.specs.Network.{IsFabric}
 use Rattle.records.specs.declared.record.Task.{Task}

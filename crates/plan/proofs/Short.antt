@@ -10,8 +10,6 @@ use Rattle.records.specs.Unique.{chosen}
 use Rattle.records.specs.declared.record.Task.{Task}
 use Rattle.records.specs.declared.record.Message.{Message}
 use Rattle.jobs.specs.declared.fault.DropFault.{DropFault}
-use Rattle.jobs.specs.declared.fault.TaskFault.{TaskFault}
-use Rattle.jobs.specs.declared.fault.MessageFault.{MessageFault}
 use Rattle.jobs.specs.declared.open.OpenTask.{OpenTask}
 use Rattle.jobs.specs.declared.open.OpenMessage.{OpenMessage}
 use Rattle.jobs.specs.Checks.{admitted_message, admitted_task}
@@ -24,7 +22,7 @@ use Rattle.jobs.specs.declared.job.Job.TheVariants as job
 use Rattle.jobs.specs.declared.job.JobFault.{JobFault}
 use Rattle.jobs.specs.Open.{message_at, task_at}
 use Rattle.jobs.specs.Placings.{first_delay, first_phase, place_message, place_task}
-use Rattle.jobs.specs.Rules.{message_refusal, offer_message, offer_task, offered, task_refusal}
+use Rattle.jobs.specs.Rules.{message_refusal, offer_message, offer_task, task_refusal}
 use Rattle.plan.specs.Loading.{both_read, file_order, in_turn, job_part, load, loaded, messages_cut, on_taken, tasks_cut}
 use Rattle.plan.specs.declared.fault.LayoutFault.{LayoutFault}
 use Rattle.promise.specs.Canonical.{ShortNames}

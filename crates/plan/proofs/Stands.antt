@@ -1,5 +1,5 @@
 -- What a plan keeps in itself is known of it, and what its calls say of it: its jobs, loaded in turn, are all taken, which an equation says.
-use Rattle.std.proofs.Common.{◌≡◌, ℕ, ℤ, ◌≤◌, List, Some, None, Option, Ok, Err, Result, sym, refl, ap, ◌∙◌, rules, subst}
+use Rattle.std.proofs.Common.{◌≡◌, ℕ, ℤ, List, Some, None, Option, Ok, Err, Result, sym, refl, ap, ◌∙◌, rules, subst}
 use Rattle.std.specs.Option.{ok_or}
 use Rattle.std.proofs.Math.Logic.{∥∥₁_elim}
 use Rattle.std.proofs.Props.{props}

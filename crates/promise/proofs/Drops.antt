@@ -1,7 +1,7 @@
 -- Droppings keep a clean plan clean.
 use Rattle.std.proofs.Common.{◌≡◌, ℕ, false, eqb, List, [], ◌∷◌, is_some, Result, sym, refl, ap, ◌∙◌, ⊎_elim}
 use Rattle.std.proofs.lemmas.Bool.{cond_both, eqb-false, or_parts}
-use Rattle.records.specs.Named.{index_of, without}
+use Rattle.records.specs.Named.{index_of}
 use Rattle.records.specs.declared.record.Message.{Message}
 use Rattle.jobs.specs.declared.fault.DropFault.{DropFault}
 use Rattle.jobs.specs.Drops.{drop_message, drop_task, in_use, names_task}

@@ -8,7 +8,6 @@ use Rattle.jobs.specs.declared.fault.TaskFault.{TaskFault}
 use Rattle.jobs.specs.declared.fault.TaskFault.TheVariants as task_fault
 use Rattle.jobs.specs.declared.fault.MessageFault.{MessageFault}
 use Rattle.jobs.specs.declared.fault.MessageFault.TheVariants as message_fault
-use Rattle.jobs.specs.declared.fault.PlacingFault.{PlacingFault}
 use Rattle.jobs.specs.declared.fault.PlacingFault.TheVariants as placing
 use Rattle.jobs.specs.declared.open.OpenTask.{OpenTask}
 use Rattle.jobs.specs.declared.open.OpenMessage.{OpenMessage}

@@ -3,7 +3,6 @@ use Rattle.std.proofs.Common.{true, ◌≡◌, ℕ, ◌⊎◌, List, map, ℤ, S
 use Rattle.std.specs.Option.{option_map}
 use Rattle.std.proofs.lemmas.Option.{same_Some}
 use Rattle.fabric.specs.Network.{IsFabric}
-use Rattle.records.specs.declared.record.Task.{Task}
 use Rattle.records.specs.declared.record.Message.{Message}
 use Rattle.jobs.specs.declared.fault.MessageFault.{MessageFault}
 use Rattle.jobs.specs.declared.fault.MessageFault.TheVariants as message_fault
@@ -11,15 +10,15 @@ use Rattle.jobs.specs.declared.job.Job.{Job}
 use Rattle.jobs.specs.declared.job.Job.TheVariants as job
 use Rattle.jobs.specs.declared.meeting.Meeting.{Meeting}
 use Rattle.jobs.specs.declared.place.Place.{Place}
-use Rattle.jobs.specs.Claims.{claims, claims_on}
+use Rattle.jobs.specs.Claims.{claims_on}
 use Rattle.jobs.specs.Jobs.{In, IsHeld, Jobs, Setting, message_name, with_message}
 use Rattle.jobs.specs.Meetings.{HeldJob, first_met, held_message}
 use Rattle.jobs.specs.Rules.{late, message_refusal, offer_message, offered, packet_refusal, refusal_past}
 use Rattle.jobs.specs.Checks.{task_timely}
 use Rattle.jobs.specs.Slacks.{lateness, message_slack}
 use Rattle.jobs.specs.Stand.{Goes}
-use Rattle.jobs.specs.Takes.{Take, message_takes, packet_takes, take_of}
-use Rattle.jobs.specs.Trips.{Trip, trip_of}
+use Rattle.jobs.specs.Takes.{message_takes, packet_takes, take_of}
+use Rattle.jobs.specs.Trips.{Trip}
 use Rattle.promise.specs.Clean.{Clean, InTime, MessageMade, OnTime, Safe, Uses}
 use Rattle.promise.specs.Offers.{FirstMeeting, Meets, MessageOffer, MessagePassed, MessageWhy}
 use Rattle.promise.proofs.Lateness.{below, late_breaks, late_least, on_time}

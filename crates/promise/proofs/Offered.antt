@@ -1,6 +1,5 @@
 -- An offered job against those held, of one kind or another: by the rule's meetings and by runs.
-use Rattle.std.proofs.Common.{◌≡◌, ℕ, ◌≤◌, false, List, map, Some, None, sym, refl, ap, ◌∙◌, subst}
-use Rattle.holds.specs.Span.{RunHolds, Span}
+use Rattle.std.proofs.Common.{◌≡◌, ℕ, false, List, map, Some, None, sym, ap, ◌∙◌, subst}
 use Rattle.jobs.specs.declared.job.Job.{Job}
 use Rattle.jobs.specs.declared.meeting.Meeting.{Meeting}
 use Rattle.jobs.specs.declared.place.Place.{Place}

@@ -1,5 +1,5 @@
 -- A part of a clean plan is clean.
-use Rattle.std.proofs.Common.{◌≡◌, ℕ, Option, refl, sym, ap, ◌∙◌}
+use Rattle.std.proofs.Common.{◌≡◌, ℕ, Option, refl, ap, ◌∙◌}
 use Rattle.records.specs.declared.record.Task.{Task}
 use Rattle.records.specs.declared.record.Message.{Message}
 use Rattle.jobs.specs.declared.job.Job.{Job}
@@ -7,7 +7,7 @@ use Rattle.jobs.specs.declared.job.Job.TheVariants as job
 use Rattle.jobs.specs.declared.place.Place.{Place}
 use Rattle.jobs.specs.Claims.{claims, claims_on}
 use Rattle.jobs.specs.Jobs.{In, IsHeld, Jobs, Setting, message_name, task_name, task_named}
-use Rattle.jobs.specs.Trips.{Trip, trip_between, trip_of}
+use Rattle.jobs.specs.Trips.{trip_between, trip_of}
 use Rattle.promise.specs.Clean.{Clean, Distinct, MessageMade, OnTime, Uses}
 use Rattle.promise.proofs.Takes.{uses_as}
 

@@ -1,5 +1,5 @@
 -- The checks before lateness and meetings are passed exactly where none of their conditions holds, and else answer an early fault.
-use Rattle.std.proofs.Common.{◌≡◌, ℕ, ◌<◌, Bool, true, false, not, eqb, leb, ◌⊎◌, List, length, is_some, Some, None, Ok, Err, Option, Result, sym, refl, ap, ◌∙◌, subst, inl, inr, ⊎_elim, arith}
+use Rattle.std.proofs.Common.{◌≡◌, ℕ, ◌<◌, true, false, not, eqb, leb, ◌⊎◌, List, length, is_some, Ok, Err, Result, ap, ◌∙◌, subst, inl, inr, arith}
 use Rattle.std.specs.Option.{ok_or}
 use Rattle.std.proofs.lemmas.Bool.{leb-false, lt-leb, ne_eqb, not-false, or_from, or_parts}
 use Rattle.std.proofs.lemmas.Bool.Decides.{nat_tests}
@@ -14,7 +14,7 @@ use Rattle.jobs.specs.declared.fault.MessageFault.TheVariants as message_fault
 use Rattle.refusals.specs.Steps.{◌>>=◌}
 use Rattle.jobs.specs.Checks.{admitted_message, admitted_task, message_timely, name_taken, refused_if, task_timely}
 use Rattle.jobs.specs.Jobs.{In, Jobs, Setting, message_name, task_name, task_named}
-use Rattle.jobs.specs.Trips.{Trip, trip_of}
+use Rattle.jobs.specs.Trips.{Trip}
 use Rattle.jobs.proofs.Admitting.{failed_check, failed_last, failed_some, passed_check, passed_last, passed_some, past_check, past_last, past_some}
 use Rattle.promise.specs.Offers.{EarlyMessage, EarlyTask, MessagePassed, TaskPassed}
 use Rattle.promise.proofs.Lists.{apart_none, fresh_apart}

@@ -11,7 +11,7 @@ use Rattle.jobs.specs.Jobs.{Jobs, Setting, task_named}
 use Rattle.jobs.specs.Meetings.{first_met, held_task}
 use Rattle.jobs.specs.Open.{message_at, task_at}
 use Rattle.jobs.specs.Placings.{delays, first_delay, first_phase}
-use Rattle.jobs.specs.Rules.{message_refusal, packet_refusal, refusal_past, run_refusal, task_refusal}
+use Rattle.jobs.specs.Rules.{message_refusal, packet_refusal, refusal_past, run_refusal}
 use Rattle.jobs.specs.Takes.{task_takes}
 use Rattle.jobs.specs.Trips.{Trip}
 use Rattle.jobs.proofs.Searches.{first_same}

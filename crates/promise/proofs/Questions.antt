@@ -1,18 +1,17 @@
 -- Questions on a clean plan: who has a place at an instant, and the slack of a message.
-use Rattle.std.proofs.Common.{◌≡◌, ℕ, ◌+◌, ◌*◌, ◌%◌, ◌<◌, ◌≤◌, Bool, true, false, cond, leb, ◌↔◌, List, map, ℤ, pos, ◌-ℤ◌, ◌≤ℤ◌, Some, None, Ok, Err, Option, Result, sym, refl, ap, ◌∙◌, subst, ⊎_elim, arith}
+use Rattle.std.proofs.Common.{◌≡◌, ℕ, ◌+◌, ◌*◌, ◌%◌, ◌≤◌, Bool, true, false, cond, leb, ◌↔◌, List, map, ℤ, pos, ◌-ℤ◌, ◌≤ℤ◌, Some, None, Ok, Err, Option, Result, sym, refl, ap, ◌∙◌, subst, ⊎_elim, arith}
 use Rattle.std.specs.Option.{ok_or, option_and_then}
 use Rattle.std.proofs.lemmas.Int.{ints}
 use Rattle.std.proofs.lemmas.Option.{same_Some}
-use Rattle.std.proofs.lemmas.Bool.{cond-true, cases_lt, le-leb, leb-true}
+use Rattle.std.proofs.lemmas.Bool.{cases_lt, le-leb, leb-true}
 use Rattle.fabric.specs.Network.{IsFabric}
 use Rattle.holds.specs.Gcd.{gcd}
-use Rattle.holds.specs.Span.{RunHolds, Span}
+use Rattle.holds.specs.Span.{RunHolds}
 use Rattle.records.specs.Named.{named}
 use Rattle.records.specs.declared.record.Task.{Task}
 use Rattle.records.specs.declared.record.Message.{Message}
 use Rattle.jobs.specs.declared.fault.DropFault.{DropFault}
 use Rattle.jobs.specs.declared.fault.DropFault.TheVariants.{Unknown}
-use Rattle.jobs.specs.declared.fault.PlaceFault.{PlaceFault}
 use Rattle.jobs.specs.declared.job.Job.{Job}
 use Rattle.jobs.specs.declared.job.Job.TheVariants as job
 use Rattle.jobs.specs.declared.place.Place.{Place}
@@ -24,10 +23,10 @@ use Rattle.jobs.specs.Jobs.{In, IsHeld, Jobs, Setting, job_name, message_name, t
 use Rattle.jobs.specs.Meetings.{HeldJob, held_message, held_task}
 use Rattle.jobs.specs.Places.{same_place}
 use Rattle.jobs.specs.Slacks.{HeldSlack, message_slack, slack, slack_among, slack_held}
-use Rattle.jobs.specs.Takes.{Take, take_of}
+use Rattle.jobs.specs.Takes.{take_of}
 use Rattle.jobs.specs.Timing.{due, task_span}
-use Rattle.jobs.specs.Trips.{Trip, message_flow, trip_of}
-use Rattle.jobs.proofs.Holders.{JobsFit, holder_is, messages_fit, tasks_fit}
+use Rattle.jobs.specs.Trips.{Trip, message_flow}
+use Rattle.jobs.proofs.Holders.{holder_is, messages_fit, tasks_fit}
 use Rattle.jobs.proofs.Limits.{slack_formula}
 use Rattle.jobs.proofs.PlaceLemmas.{same_place_refl, same_place_true}
 use Rattle.jobs.proofs.Slacks.{held_slack}

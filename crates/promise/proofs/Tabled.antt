@@ -1,5 +1,5 @@
 -- What an insertion and a removal leave in a table with the others beside it.
-use Rattle.std.proofs.Common.{◌≡◌, ℕ, ◌<◌, true, false, ltb, List, length, None, Ok, Err, Option, Result, is_ok, MatchResult, sym, ap, ◌∙◌}
+use Rattle.std.proofs.Common.{◌≡◌, ℕ, ◌<◌, true, false, ltb, List, length, None, Ok, Err, Result, is_ok, MatchResult, ap, ◌∙◌}
 use Rattle.std.proofs.lemmas.Bool.{lt-ltb}
 use Rattle.records.specs.Named.{add, without}
 use Rattle.records.specs.Tables.{held}

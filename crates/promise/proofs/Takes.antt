@@ -21,11 +21,11 @@ use Rattle.jobs.specs.Claims.{Claim, claims, claims_on, link_claims, task_claim,
 use Rattle.jobs.specs.Jobs.{In, IsHeld, Jobs, Setting, task_named}
 use Rattle.jobs.specs.Places.{core, link}
 use Rattle.jobs.specs.Stand.{Goes}
-use Rattle.jobs.specs.Takes.{Take, take_of, task_hold}
-use Rattle.jobs.specs.Timing.{departure, link_delay, packet_period, run_number, task_span}
+use Rattle.jobs.specs.Takes.{Take, take_of}
+use Rattle.jobs.specs.Timing.{departure, link_delay, packet_period, run_number}
 use Rattle.jobs.specs.Trips.{Trip, trip_between, trip_of}
 use Rattle.jobs.proofs.Holders.{claims_fit}
-use Rattle.jobs.proofs.Limits.{Within, claim_holds, claims_within, task_holds}
+use Rattle.jobs.proofs.Limits.{claim_holds, task_holds}
 use Rattle.promise.specs.Clean.{Clean, MessageMade, TaskMade, Uses}
 use Rattle.promise.proofs.Lists.{in_cases, in_map, in_nil, map_in, named_in}
 

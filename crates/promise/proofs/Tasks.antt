@@ -1,7 +1,6 @@
 -- Offers of tasks to a clean plan: taken exactly where the plan stays safe.
-use Rattle.std.proofs.Common.{◌≡◌, ℕ, ◌⊎◌, List, map, Some, None, Ok, Err, Option, Result, sym, refl, ap, ◌∙◌, subst, inl, inr, ⊎_elim}
+use Rattle.std.proofs.Common.{◌≡◌, ℕ, ◌⊎◌, map, Some, None, Ok, Err, Option, Result, sym, refl, ap, ◌∙◌, subst, inl, inr, ⊎_elim}
 use Rattle.std.specs.Option.{option_map}
-use Rattle.fabric.specs.Network.{IsFabric}
 use Rattle.records.specs.Named.{add}
 use Rattle.records.specs.declared.record.Task.{Task}
 use Rattle.records.specs.declared.record.Message.{Message}
@@ -11,18 +10,18 @@ use Rattle.jobs.specs.declared.job.Job.{Job}
 use Rattle.jobs.specs.declared.job.Job.TheVariants as job
 use Rattle.jobs.specs.declared.meeting.Meeting.{Meeting}
 use Rattle.jobs.specs.declared.place.Place.{Place}
-use Rattle.jobs.specs.Claims.{claims, claims_on}
+use Rattle.jobs.specs.Claims.{claims_on}
 use Rattle.jobs.specs.Jobs.{In, IsHeld, Jobs, Setting, task_name, task_named, with_task}
 use Rattle.jobs.specs.Meetings.{first_met, held_task}
 use Rattle.jobs.specs.Rules.{offer_task, offered, refusal_past, run_refusal, task_refusal}
 use Rattle.jobs.specs.Takes.{task_takes}
-use Rattle.jobs.specs.Trips.{Trip, trip_of}
+use Rattle.jobs.specs.Trips.{trip_of}
 use Rattle.promise.specs.Clean.{Clean, MessageMade, OnTime, Safe, TaskMade, Uses}
 use Rattle.promise.specs.Offers.{FirstMeeting, Meets, TaskOffer, TaskPassed, TaskWhy}
 use Rattle.promise.proofs.Lists.{add_new, add_old, distinct_add_apart, in_add, named_add_other, named_in}
 use Rattle.promise.proofs.Offered.{first_meets, none_meets}
 use Rattle.promise.proofs.Passing.{task_admitted}
-use Rattle.promise.proofs.Takes.{Parted, Whole, kinds_apart, same_run, task_whole, trip_is, trip_parts, uses_as}
+use Rattle.promise.proofs.Takes.{Whole, kinds_apart, same_run, task_whole, trip_is, trip_parts, uses_as}
 
 module _ (g : Setting) (js : Jobs) (t : Task) (clean : Clean g js) (p : TaskPassed g js t) where
   own_made : TaskMade g t

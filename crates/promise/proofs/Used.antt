@@ -1,15 +1,14 @@
 -- A run that has a place has it by a claim, and the claims are those of the core or of the links of the route.
-use Rattle.std.proofs.Common.{◌≡◌, ℕ, ◌+◌, ◌*◌, ◌<◌, ◌≤◌, List, length, Some, None, Option, refl, sym, ap, ◌∙◌, subst, arith}
+use Rattle.std.proofs.Common.{◌≡◌, ℕ, ◌+◌, Some, None, Option, refl, sym, ap, ◌∙◌, subst, arith}
 use Rattle.std.specs.List.{slice_get}
 use Rattle.std.proofs.lemmas.Option.{same_Some}
 use Rattle.holds.specs.Span.{RunHolds}
-use Rattle.records.specs.declared.record.Task.{Task}
 use Rattle.records.specs.declared.record.Message.{Message}
 use Rattle.jobs.specs.declared.job.Job.TheVariants as job
 use Rattle.jobs.specs.declared.place.Place.{Place}
 use Rattle.jobs.specs.Claims.{Claim, claims_on, task_claim, trip_claims}
 use Rattle.jobs.specs.Jobs.{In, Jobs, Setting}
-use Rattle.jobs.specs.Places.{core, link}
+use Rattle.jobs.specs.Places.{link}
 use Rattle.jobs.specs.Timing.{departure, offset, packet_period, task_span}
 use Rattle.jobs.specs.Trips.{Trip, trip_of}
 use Rattle.jobs.proofs.Limits.{claims_at, offset_even}

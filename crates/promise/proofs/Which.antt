@@ -13,7 +13,7 @@ use Rattle.jobs.specs.declared.fault.MessageFault.{MessageFault}
 use Rattle.jobs.specs.declared.fault.MessageFault.TheVariants as message_fault
 use Rattle.refusals.specs.Steps.{◌>>=◌}
 use Rattle.jobs.specs.Checks.{admitted_message, admitted_task, message_timely, name_taken, refused_if, task_timely}
-use Rattle.jobs.specs.Jobs.{In, Jobs, Setting, message_name, task_name, task_named}
+use Rattle.jobs.specs.Jobs.{Jobs, Setting, message_name, task_name, task_named}
 use Rattle.jobs.specs.Trips.{Trip}
 use Rattle.jobs.proofs.Admitting.{fails_check, fails_some, past_check, past_some}
 use Rattle.promise.specs.Offers.{EndsHeld, MessageFails, MessageTimes, NameTaken, TaskFails, TaskTimes}

@@ -2,12 +2,11 @@
 --   Canonical     names ascend, and no more jobs are held than a plan has room for
 --   ShortNames    every name fits in two bytes
 --   SameMembers   two plans hold the same jobs
-use Rattle.std.specs.Prelude.{◌≡◌, ℕ, ◌≤◌, true, ◌↔◌, length, Ok}
-use Rattle.fabric.specs.Network.{Lawful}
+use Rattle.std.specs.Prelude.{◌≡◌, ◌≤◌, true, ◌↔◌, length}
 use Rattle.records.specs.Named.{ascends}
 use Rattle.records.specs.declared.record.Task.{Task}
 use Rattle.records.specs.declared.record.Message.{Message}
-use Rattle.jobs.specs.Jobs.{In, Jobs, Setting, message_name, nothing, task_name}
+use Rattle.jobs.specs.Jobs.{In, Jobs, message_name, task_name}
 
 -- the names of the tasks ascend from 1 and those of the messages too, and there are at most 64 tasks and at most 128 messages
 pub record Canonical (js : Jobs) : Type 0 where

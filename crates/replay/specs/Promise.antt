@@ -5,8 +5,6 @@
 use Rattle.std.specs.Prelude.{◌≡◌, ℕ, suc, ◌<◌, ◌≤◌, List, length, take, ℤ, Some, Ok, Err, Option, Result}
 use Rattle.std.specs.List.{slice_get}
 use Rattle.fabric.specs.Network.{IsFabric}
-use Rattle.records.specs.declared.record.Task.{Task}
-use Rattle.records.specs.declared.record.Message.{Message}
 use Rattle.refusals.specs.declared.refusal.BufferFault.{BufferFault}
 use Rattle.refusals.specs.declared.refusal.Counts.{Counts}
 use Rattle.jobs.specs.declared.fault.TaskFault.{TaskFault}

@@ -1,5 +1,5 @@
 -- The parts of a plan file: its network keeps the laws.
-use Rattle.std.proofs.Common.{◌≡◌, ℕ, ◌≤◌, ◌&&◌, List, Ok, Err, Result, refl, ap, subst, lit≤}
+use Rattle.std.proofs.Common.{◌≡◌, ℕ, ◌&&◌, List, Ok, Err, Result, refl, ap, subst, lit≤}
 use Rattle.std.proofs.lemmas.Bool.{and_parts, leb-true}
 use Rattle.std.specs.Prelude.{nat_le}
 use Rattle.records.specs.Head.{head_read}

@@ -1,4 +1,3 @@
-use Rattle.std.proofs.Common.{ℕ}
 use Rattle.jobs.proofs.Limits.{claims_at, claims_length, flow_even, offset_even, packet_holds, slack_formula, task_holds, travel_even}
 use Rattle.jobs.specs.Timing.{departure, packet_period}
 use Rattle.jobs.proofs.rules_stand.Goals as goal

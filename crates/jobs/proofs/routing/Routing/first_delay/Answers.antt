@@ -3,7 +3,7 @@ use Rattle.std.proofs.lemmas.Bool.{cases_lt}
 use Rattle.holds.specs.Search.{first_from}
 use Rattle.records.specs.declared.record.Task.{Task}
 use Rattle.jobs.specs.declared.meeting.Meeting.{Meeting}
-use Rattle.jobs.specs.Jobs.{Jobs, created_on}
+use Rattle.jobs.specs.Jobs.{created_on}
 use Rattle.jobs.specs.Meetings.{HeldJob, first_met}
 use Rattle.jobs.specs.Open.{message_at}
 use Rattle.jobs.specs.Routings.{IsAdmitted}

@@ -1,4 +1,4 @@
-use Rattle.std.proofs.Common.{◌≡◌, ℕ, ◌*◌, ◌≤◌, length, sym, refl, ap, ◌∙◌, mul-le-mul, arith}
+use Rattle.std.proofs.Common.{ℕ, ◌*◌, ◌≤◌, length, sym, refl, ap, ◌∙◌, mul-le-mul, arith}
 use Rattle.fabric.proofs.Laws.{answer_64, length_route}
 use Rattle.jobs.proofs.Limits.{travel_even}
 use Rattle.jobs.proofs.way.Way.of.Goals as goal

@@ -2,7 +2,7 @@ use Rattle.std.proofs.Common.{◌≡◌, ◌+◌, ◌++◌, List, map, [], ◌�
 use Rattle.std.proofs.lemmas.List.{map-append}
 use Rattle.jobs.specs.Takes.{Take}
 use Rattle.jobs.specs.Ways.{stay_take}
-use Rattle.jobs.proofs.Walks.{stays_more, takes_all, takes_from, takes_none, takes_past}
+use Rattle.jobs.proofs.Walks.{stays_more, takes_from, takes_none, takes_past}
 use Rattle.jobs.proofs.way.Way.stays.Goals as goal
 
 pub returns-in_default : goal.returns-in_default

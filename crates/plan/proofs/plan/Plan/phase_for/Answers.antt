@@ -1,4 +1,4 @@
-use Rattle.std.proofs.Common.{◌≡◌, ◌+◌, ◌-◌, List, map, Ok, sym, ap, ◌∙◌, subst, rules}
+use Rattle.std.proofs.Common.{◌≡◌, ◌+◌, ◌-◌, List, map, Ok, sym, ap, ◌∙◌, rules}
 use Rattle.std.specs.Option.{ok_or}
 use Rattle.std.specs.Prelude.{is_none}
 use Rattle.jobs.specs.declared.fault.PlacingFault.TheVariants as placing
