@@ -1,16 +1,25 @@
 -- The records of a listed fabric ascend, so each pair of nodes has one record at most; and what a file gives is of its records.
-use Rattle.std.proofs.Common.{◌≡◌, ℕ, zero, suc, ◌+◌, ◌-◌, ◌<◌, true, false, cond, ◌&&◌, eqb, ltb, ◌⊎◌, List, [], Some, None, Option, sym, refl, ap, ◌∙◌, subst, zero-add, inl, inr, ⊎_elim, arith}
+use Rattle.std.proofs.Common.{◌≡◌, ℕ, zero, suc, ◌+◌, ◌-◌, ◌<◌, Bool, true, false, cond, ◌&&◌, eqb, ltb, ◌⊎◌, List, [], Some, None, Ok, Err, Option, Result, sym, refl, ap, ◌∙◌, subst, zero-add, inl, inr, ⊎_elim, arith}
 use Rattle.std.proofs.lemmas.Bool.{ltb-true, eqb-true, ne_eqb, and_parts, or_cases, cases_Bool, cond-true, cond-false}
 use Rattle.std.specs.Option.{option_map}
+use Rattle.records.specs.Head.{head_read}
+use Rattle.records.specs.Sections.{count_of, cut_of}
+use Rattle.records.specs.declared.head.FabricKind.{FabricKind}
+use Rattle.records.specs.declared.head.FabricKind.TheVariants.{Mesh as MeshKind, Listed as ListedKind}
+use Rattle.records.specs.declared.head.Head.{Head as FileHead}
+use Rattle.records.specs.declared.head.HeadFault.{HeadFault}
+use Rattle.records.specs.declared.head.HeadFault.TheVariants.{Limits}
+use Rattle.refusals.specs.Steps.{◌>>=◌, within}
+use Rattle.listed.specs.declared.faults.SectionFault.TheVariants.{Many, Short}
 use Rattle.records.specs.declared.record.Link.{Link}
 use Rattle.records.specs.declared.record.Route.{Route}
 use Rattle.listed.specs.Records.{link_at, route_count, route_at, route_prior, link_good, route_links, route_above, route_good, RoutesGood, seek, listed_route}
-use Rattle.listed.specs.Description.{Description, links_fault, routes_fault}
-use Rattle.listed.specs.SetRecords.{OfRecords, SetRecords}
+use Rattle.listed.specs.Description.{Description, head_fits, head_of_kind, links_fault, listed_head, routes_fault, section_read, too_many}
+use Rattle.listed.specs.SetRecords.{FromFile, OfRecords, SetRecords}
 use Rattle.listed.specs.Sound.{GoodParts, good_parts}
 use Rattle.listed.proofs.Finds.{chosen, chosen_here, chosen_other, seek_first, seek_nothing, route_found}
 use Rattle.listed.proofs.Firsts.{links_good, routes_good}
-use Rattle.listed.proofs.Parts.{parts}
+use Rattle.listed.proofs.Parts.{Parts, parts}
 
 -- one pair of nodes is below another: by from, then by to
 abbrev pub Below : ℕ × ℕ → ℕ × ℕ → Type 0
@@ -120,6 +129,7 @@ faultless : (s : Description) → links_fault s.nodes s.links ≡ None → route
 faultless s nl nr =
     let routed = routes_good s.nodes s.links s.routes nr in
     record {
+      sizes = (refl, refl, refl);
       linked = λ l h.
           let (x, here) = some_link s.nodes (link_at s.links l) (links_good s.nodes s.links nl l h) in
           (x, here, ap (option_map (λ y. (y.from, y.to))) here);
@@ -127,6 +137,44 @@ faultless s nl nr =
       others = route_none s.nodes s.links s.routes routed;
     }
 
+-- a section that is read is the one that stands there
+cut_read : (size limit : ℕ) (file : List ℕ) (p : List ℕ × List ℕ) → section_read size limit file ≡ Ok p → cut_of size file ≡ Ok p
+cut_read size limit file p = go (too_many limit (count_of file)) (cut_of size file)
+  where
+    go : (b : Bool) (r : Result (List ℕ × List ℕ) ℕ) → cond b (Err Many) (within Short r) ≡ Ok p → r ≡ Ok p
+    go true r e = cc
+    go false (Ok q) e = cc
+    go false (Err k) e = cc
+
+-- and so is a head
+head_found : (file : List ℕ) (p : FileHead × List ℕ) → listed_head file ≡ Ok p → head_read file ≡ Ok p
+head_found file p = go (head_read file)
+  where
+    kinds : (k : FabricKind) (q : FileHead × List ℕ) → head_of_kind k q ≡ Ok p → ◌≡◌ {A = Result (FileHead × List ℕ) HeadFault} (Ok q) (Ok p)
+    kinds MeshKind q e = cc
+    kinds ListedKind q e = fits (head_fits q.0) e
+      where
+        fits : (b : Bool) → cond b (Ok q) (Err Limits) ≡ Ok p → ◌≡◌ {A = Result (FileHead × List ℕ) HeadFault} (Ok q) (Ok p)
+        fits true e = e
+        fits false e = cc
+
+    go : (r : Result (FileHead × List ℕ) HeadFault) → (r >>= (λ q. head_of_kind q.0.kind q)) ≡ Ok p → r ≡ Ok p
+    go (Err f) e = cc
+    go (Ok q) e = kinds q.0.kind q e
+
+from_file : (file : List ℕ) (d : Description) (rest : List ℕ) → Parts file d rest → FromFile file d rest
+from_file file d rest p =
+    record {
+      head = p.head;
+      body = p.body;
+      tail = p.tail;
+      begins = head_found file (p.head, p.body) p.of_head;
+      nodes = sym p.same_nodes;
+      delay = sym p.same_delay;
+      links = cut_read 2 128 p.body (d.links, p.tail) p.of_links;
+      routes = cut_read 16 256 p.tail (d.routes, rest) p.of_routes;
+    }
+
 -- so is what a file gives
 pub set_records : SetRecords
-set_records file d rest read = let p = parts file (d, rest) read in faultless d p.linked p.routed
+set_records file d rest read = let p = parts file (d, rest) read in (from_file file d rest p, faultless d p.linked p.routed)
