@@ -7,15 +7,15 @@ use Rattle.records.specs.declared.record.Message.{Message}
 use Rattle.jobs.specs.declared.job.Job.TheVariants as job
 use Rattle.jobs.specs.declared.place.Place.{Place}
 use Rattle.jobs.specs.Claims.{Claim, claims_on, task_claim, trip_claims}
-use Rattle.jobs.specs.Jobs.{In, Jobs, Setting}
+use Rattle.jobs.specs.Jobs.{In, Jobs, Setting, task_name, task_named}
 use Rattle.jobs.specs.Places.{link}
 use Rattle.jobs.specs.Timing.{departure, offset, packet_period, task_span}
 use Rattle.jobs.specs.Trips.{Trip, trip_of}
 use Rattle.jobs.proofs.Limits.{claims_at, offset_even}
 use Rattle.promise.specs.Clean.{Uses}
-use Rattle.promise.specs.Used.{MessageUses, OnLink, TaskUses}
-use Rattle.promise.proofs.Lists.{in_nil}
-use Rattle.promise.proofs.Takes.{claim_link, lone_in, nth_below}
+use Rattle.promise.specs.Used.{MessageUses, OnLink, TaskUses, TripTasks}
+use Rattle.promise.proofs.Lists.{in_nil, named_in}
+use Rattle.promise.proofs.Takes.{claim_link, lone_in, nth_below, trip_parts}
 
 pub task_uses : TaskUses
 task_uses g js t k p n = (
@@ -76,3 +76,8 @@ module _ (g : Setting) (js : Jobs) (m : Message) (k : ℕ) (p : Place) (n : ℕ)
 
 pub message_uses : MessageUses
 message_uses g js m k p n = (on_link g js m k p n, has_link g js m k p n)
+
+pub trip_tasks : TripTasks
+trip_tasks g ts m t e =
+    let p = trip_parts g.network (task_named ts m.source) (task_named ts m.destination) t e in
+    (named_in task_name m.source t.source ts p.source, named_in task_name m.destination t.destination ts p.destination, p.along)

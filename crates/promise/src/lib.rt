@@ -4,11 +4,12 @@
 
 ghost use Rattle.jobs.specs.Jobs.{Setting, nothing};
 ghost use Rattle.promise.specs.Clean.{Clean};
-ghost use Rattle.promise.specs.Used.{MessageUses, TaskUses};
+ghost use Rattle.promise.specs.Used.{MessageUses, TaskUses, TripTasks};
 
 /// A new plan is clean; and which run or packet has which place when is as the numbers of jobs and fabrics have it.
 pub fn plans_stand()
     ensures clean { (g : Setting) → Clean g nothing }
     ensures tasks { TaskUses }
     ensures messages { MessageUses }
+    ensures trips { TripTasks }
 {}
