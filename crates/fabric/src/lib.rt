@@ -36,7 +36,7 @@ pub trait Fabric {
     fn link_numbers(&self) -> usize
         ensures { result ≡ (meaning self.now).links };
 
-    /// How many instants a packet takes on each link, at most 64.
+    /// By how many instants a packet is later on the next link of its route than on this one, at most 64.
     fn hop_delay(&self) -> usize
         ensures { result ≡ (meaning self.now).delay };
 

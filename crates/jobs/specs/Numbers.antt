@@ -1,4 +1,4 @@
--- Rule. The number of each refusal of an offer, and the values that stand beside it.
+-- Rule. The number of each refusal of an offer, a placing, a dropping, a slack or a holder, and the values that stand beside it.
 use Rattle.std.specs.Prelude.{ℕ}
 use Rattle.refusals.specs.Told.{plain}
 use Rattle.refusals.specs.declared.refusal.Refusal.{Refusal}

@@ -1,5 +1,8 @@
 -- Meaning. The words of time in the numbers of tasks, messages and fabrics; and within the limits of tasks and messages the rules pass
 -- nothing over: every claim is a hold, and the least slack is the formula's.
+--   TaskHolds, ClaimsRoute, PacketHolds   claims and holds
+--   Goes                                  a message within its limits on a trip that the network has
+--   TravelEven, FlowEven, SlackFormula    times in numbers
 use Rattle.std.specs.Prelude.{◌≡◌, ℕ, ◌+◌, ◌*◌, ◌%◌, ◌≤◌, true, cond, List, length, pos, ◌-ℤ◌, ◌==◌, Some}
 use Rattle.std.specs.List.{slice_get}
 use Rattle.fabric.specs.Network.{IsFabric, Network}

@@ -2,7 +2,8 @@
 --   task_span        the runs of a task
 --   departure        when packet 0 of a message leaves
 --   packet_period    how far apart packets leave
---   run_number       the source's run that a packet belongs to
+--   run_number       the run that a run or packet counts as
+--   link_delay       how long after a link the next one is taken
 --   travel, offset   how long a route takes, and how long it takes to a place of it
 --   arrival, due     when packets arrive, and from when on they must be read
 use Rattle.std.specs.Prelude.{ℕ, ◌+◌, cond, List, [], ◌∷◌, take, ◌==◌}

@@ -17,7 +17,7 @@ mod stay;
 pub mod task;
 pub mod way;
 
-/// Within the limits of tasks and messages the rules pass nothing over.
+/// The words of time in the numbers of tasks, messages and fabrics; and within the limits of tasks and messages the rules pass nothing over.
 pub fn rules_stand()
     ensures tasks { TaskHolds }
     ensures route { ClaimsRoute }

@@ -1,6 +1,6 @@
 //! The smallest phase or delay at which a job meets none of those held.
 //!
-//! From a value at which the job meets a held one, the search goes on at the first value that is clear of that one. The searches
+//! From a value at which the job meets a held one, the search goes on at the first value that is clear of that one on the place where they meet. The searches
 //! for a phase and for a delay stand each by itself: a closure that tries a value would have to hand back its job, its way and
 //! its meeting. Which delays are in time is known before the search.
 ghost use Rattle.std.specs.Prelude.{◌≡◌, map};
@@ -23,7 +23,7 @@ use holds::least_wait;
 use records::record::{Message, Task};
 use records::search::named;
 
-// By how many instants a stay must be put off to be clear of a held one, none where it never is.
+// A wait: put off by less, the stay still meets the held one; none: put off by anything, it does.
 fn stay_wait(own: &Stay, held: &Stay) -> Option<u32>
     ensures { StillMeets (stay_take own.now) (stay_take held.now) result }
 {
@@ -43,7 +43,7 @@ fn stay_at(stays: &[Stay], place: Place) -> Option<Stay>
     stays.iter().find(|stay| stay.place.is(place)).copied()
 }
 
-// By how many instants a job must be put off to be clear of the held one that it meets, none where it never is.
+// A wait: put off by less, the job still meets what is held, on the place where it meets the held job now; none: put off by anything, it does.
 fn wait_past<B, J: Held<B>>(routing: &B, held: &[J], own: &[Stay], meeting: &Meeting) -> Option<u32>
     ensures { StillMet (map stay_take own.now) (map (job_of J.Named.label (J.Held.takes routing.now)) held.now) result }
 {

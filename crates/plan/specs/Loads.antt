@@ -2,6 +2,8 @@
 --   Try, load_tries    an offer as it is tried, and those that a load makes
 --   JobAnswer          what is promised of the answer to the offer of a job of either kind
 --   LoadAnswer         what is promised of the answer to a load
+--   OfRecord, AllTaken, RefusedAt, PartAnswer    what it says of the offers and of the answer
+--   JobMore, Taken     one job more; a job whose offer was taken
 --   LoadLeft           what a load leaves held
 use Rattle.std.specs.Prelude.{◌≡◌, ℕ, suc, ◌+◌, ◌<◌, ◌⊎◌, ◌↔◌, List, [], ◌∷◌, length, take, Some, Ok, Err, Option, Result}
 use Rattle.std.specs.List.{slice_get}

@@ -1,5 +1,6 @@
 -- Meaning. The bytes that say what is held: what a write gives, and that it loads back.
 --   PartWritten    the answer to a write, and what it leaves of the buffer
+--   ReadsBack      the job part reads as the held jobs
 --   LoadsBack      the job part reads as the held jobs, and loaded into a new plan it gives them
 --   RoundTrip      so it is for what a clean plan holds
 --   SameBytes      plans that hold the same jobs write the same bytes

@@ -9,7 +9,8 @@ pub mod plan;
 
 pub use plan::Plan;
 
-/// What a plan over any lawful network writes loads back into the same plan, and plans that hold the same jobs write the same bytes.
+/// The job part of what a clean plan holds, in ascending names that fit in two bytes, loads into a new plan as the same jobs; and plans that
+/// hold the same jobs in ascending names write the same bytes.
 pub fn plans_stand()
     ensures back { RoundTrip }
     ensures same { SameBytes }

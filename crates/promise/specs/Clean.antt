@@ -1,7 +1,9 @@
 -- Meaning. What a clean plan is, by the instants of unbounded time.
 --   Uses        a run or packet has a place at an instant
 --   OnTime      every packet has arrived when the run that must read it starts
+--   InTime      what it says of the packets on a trip
 --   Safe        no two runs or packets have one place at one instant, and every packet is on time
+--   TaskMade, MessageMade, Distinct    what Made says of a job and of names
 --   Made        every held job is within its limits, its parts are there, and names are distinct
 --   Clean       both
 use Rattle.std.specs.Prelude.{◌≡◌, ℕ, ◌+◌, ◌*◌, ◌<◌, ◌≤◌, List, Some}

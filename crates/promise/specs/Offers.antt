@@ -4,7 +4,10 @@
 --   Meets                        an offered and a held job have one place at one instant
 --   FirstMeeting                 the first meeting of all time, then the smallest held name, then the smallest place
 --   TaskOffer, MessageOffer      an offer past the checks is refused exactly where taking it would make the plan unsafe
+--   TaskWhy, MessageWhy          why an offer past the checks is refused
 --   TaskAnswer, MessageAnswer    what an offer answers, past the checks or not
+--   TaskFits, MessageFits        a value of the range with which an offer would be taken
+--   TaskPlacing, MessagePlacing  what a placing answers
 --   Smallest                     a placing answers the smallest value that an offer would be taken with
 use Rattle.std.specs.Prelude.{◌≡◌, ℕ, ◌+◌, ◌<◌, ◌≤◌, true, false, ◌↔◌, ◌⊎◌, List, length, None, pos, Ok, Err, Result, Some, ◌≢◌, int_lt}
 use Rattle.holds.specs.Slack.{LeastSlack}
@@ -58,7 +61,7 @@ pub record MessagePassed (g : Setting) (js : Jobs) (m : Message) (t : Trip) : Ty
 
 -- ---- which of them fails first
 
--- no job can be offered with a name that is 0 or held
+-- a name is taken where it is 0 or a held job has it
 abbrev pub NameTaken : {X : Type 0} → (X → ℕ) → ℕ → List X → Type 0
 NameTaken {X = X} name n xs = (n ≡ 0) ⊎ ((x : X) × In x xs × (name x ≡ n))
 

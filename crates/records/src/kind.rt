@@ -7,9 +7,9 @@ use thiserror::Error;
 /// Which run has to read the packets of a message.
 #[derive(Clone, Copy, PartialEq, Eq, Debug)]
 pub enum Kind {
-    /// The one that is due with the packet's own period: the byte 0.
+    /// For packet k, the first that starts k periods of the source after instant 0 or later: the byte 0.
     Precedence,
-    /// The one that is due a period later: the byte 1.
+    /// The first that starts a period of the source later than that, or later still: the byte 1.
     NextPeriod,
 }
 

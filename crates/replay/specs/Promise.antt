@@ -1,6 +1,7 @@
--- Meaning. The main promise, over every lawful network: of one call on any clean plan, and of every list of calls on a new one.
+-- Meaning. The main promise, over every lawful network: of one call on any clean plan in ascending names, and of every list of calls on a new one.
 --   Promised, After        what is promised of the answer to a call, and of what is held after it
---   CallPromise, EachCall  what is promised of one call on any clean plan
+--   WriteAnswer            what is promised of the answer to a write
+--   CallPromise, EachCall  what is promised of one call on any clean plan in ascending names, within its room
 --   Promise, MainPromise   what is promised of a list of calls on a new plan
 use Rattle.std.specs.Prelude.{◌≡◌, ℕ, suc, ◌<◌, ◌≤◌, List, length, take, ℤ, Some, Ok, Err, Option, Result}
 use Rattle.std.specs.List.{slice_get}
@@ -77,7 +78,7 @@ pub record CallPromise (g : Setting) (js : Jobs) (a : Ask) : Type 0 where
   pub short : ShortNames js → ShortAsk a → ShortNames (ask g js a).1
   pub back : ShortNames js → ShortAsk a → LoadsBack g (ask g js a).1
 
--- for every network that keeps the laws, every clean plan, and every call
+-- for every network that keeps the laws, every clean plan in ascending names within its room, and every call
 abbrev pub EachCall : Type 0
 EachCall = (g : Setting) → IsFabric g.network → (js : Jobs) → Clean g js → Canonical js → (a : Ask) → CallPromise g js a
 

@@ -1,4 +1,4 @@
--- Working. The calls that a caller can make: names have two bytes, and a job part is bytes.
+-- Meaning. The calls that a caller can make: names have two bytes, and a job part is bytes.
 --   ShortAsk   the name that a call would have held fits in two bytes, and what it loads are bytes
 use Rattle.std.specs.Prelude.{◌≤◌}
 use Rattle.records.specs.Bytes.{Bytes}

@@ -15,9 +15,9 @@ pub enum Call<B> {
     OfferTask(Task),
     /// Offers a message.
     OfferMessage(Message),
-    /// Takes a task at the smallest phase that an offer would be taken with.
+    /// Places a task at the smallest phase that an offer would be taken with.
     PlaceTask(OpenTask),
-    /// Takes a message at the smallest delay that an offer would be taken with.
+    /// Places a message at the smallest delay that an offer would be taken with.
     PlaceMessage(OpenMessage),
     /// Drops the task of a name.
     DropTask(u16),

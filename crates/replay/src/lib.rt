@@ -129,7 +129,7 @@ pub fn replay<'f, F: Fabric>(
     (plan, answers)
 }
 
-/// Over every lawful network: a call on any clean plan is answered as promised, leaves held what its answer says, and keeps the plan
+/// Over every lawful network: a call on any clean plan in ascending names within its room is answered as promised, leaves held what its answer says, and keeps the plan
 /// clean; and after every list of calls on a new plan the plan is clean for all of time, and each call of the list was so answered.
 pub fn promise_stands()
     ensures call { EachCall }

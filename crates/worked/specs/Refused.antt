@@ -1,4 +1,4 @@
--- Meaning. Calls and files that are refused, worked by hand, with the refusals found there; beside each limit, what is within it.
+-- Meaning. Calls and loads that are refused, worked by hand, with the refusals found there; beside each limit, what is within it.
 use Rattle.std.specs.Prelude.{ℕ, suc, cond, List, [], ◌∷◌, ◌++◌, map, take, pos, negsuc, Some, None, Err, ◌==◌}
 use Rattle.std.specs.List.{range_with_len}
 use Rattle.fabric.specs.Grid.{grid}

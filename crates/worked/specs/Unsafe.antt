@@ -1,4 +1,4 @@
--- Meaning. What may not be held, each case for one reason, by the runs and packets themselves.
+-- Meaning. What is not safe to hold. The lines say why; the definitions say that it is not safe.
 use Rattle.std.specs.Prelude.{ℕ, ◌+◌, List, [], ◌∷◌}
 use Rattle.records.specs.declared.record.Task.{Task}
 use Rattle.records.specs.declared.record.Message.{Message}
