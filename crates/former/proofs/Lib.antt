@@ -1,0 +1,11 @@
+pub mod Cleaning
+pub mod Taking
+pub mod Meeting
+pub mod Refusing
+pub mod Asking
+pub mod Offering
+pub mod Telling
+pub mod Standing
+pub mod Loading
+pub mod Tries
+pub mod Loaded

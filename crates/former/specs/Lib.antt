@@ -1,0 +1,4 @@
+pub mod Former
+pub mod Loads
+pub mod Same
+pub mod SameLoads
