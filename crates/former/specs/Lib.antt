@@ -1,4 +1,0 @@
-pub mod Former
-pub mod Loads
-pub mod Same
-pub mod SameLoads
