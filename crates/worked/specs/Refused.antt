@@ -72,6 +72,12 @@ no_task = 0 ∷ 2 ∷ 1 ∷ 1 ∷ 0 ∷ 0 ∷ 0 ∷ 20 ∷ 0 ∷ 0 ∷ 0 ∷ 15 
 abbrev pub no_message : List ℕ
 no_message = 0 ∷ 1 ∷ 0 ∷ 1 ∷ 0 ∷ 2 ∷ 0 ∷ 1 ∷ 0 ∷ 0 ∷ 0 ∷ 0 ∷ 0 ∷ 0 ∷ 0 ∷ 2 ∷ []
 
+-- task 258 has period 65,536, phase 258 and width 256, and message 513 from it to itself the delay 260
+abbrev pub wide_numbers : List ℕ
+wide_numbers =
+    0 ∷ 1 ∷ 1 ∷ 2 ∷ 0 ∷ 0 ∷ 0 ∷ 1 ∷ 0 ∷ 0 ∷ 0 ∷ 0 ∷ 1 ∷ 2 ∷ 0 ∷ 0 ∷ 1 ∷ 0
+    ∷ 0 ∷ 1 ∷ 2 ∷ 1 ∷ 1 ∷ 2 ∷ 1 ∷ 2 ∷ 1 ∷ 0 ∷ 0 ∷ 0 ∷ 1 ∷ 4 ∷ 0 ∷ 0 ∷ 1 ∷ 0 ∷ []
+
 -- the calls that are refused
 abbrev pub refused : List Case
 refused =
@@ -131,11 +137,10 @@ refused =
     ∷ calling (mesh 2 1 3)
     (call.Load (0 ∷ 2 ∷ task_bytes 2 1 20 15 5 ++ task_bytes 1 0 20 0 4 ++ 0 ∷ 2 ∷ message_bytes 2 1 2 0 2 2 ++ message_bytes 1 1 2 0 0 2) ∷ call.Write 68 ∷ [])
     (all_loaded 2 2 ∷ written (two_tasks ++ 0 ∷ 2 ∷ message_bytes 1 1 2 0 0 2 ++ message_bytes 2 1 2 0 2 2) ∷ [])
-    -- numbers of more than one byte: task 258 has period 65,536, phase 258 and width 256, and message 513 from it to itself the delay 260
-    ∷ calling (mesh 1 1 0) (call.Load (0 ∷ 1 ∷ 1 ∷ 2 ∷ 0 ∷ 0 ∷ 0 ∷ 1 ∷ 0 ∷ 0 ∷ 0 ∷ 0 ∷ 1 ∷ 2 ∷ 0 ∷ 0 ∷ 1 ∷ 0
-    ∷ 0 ∷ 1 ∷ 2 ∷ 1 ∷ 1 ∷ 2 ∷ 1 ∷ 2 ∷ 1 ∷ 0 ∷ 0 ∷ 0 ∷ 1 ∷ 4 ∷ 0 ∷ 0 ∷ 1 ∷ 0 ∷ [])
-    ∷ call.CoreHolder 0 257 ∷ call.CoreHolder 0 258 ∷ call.CoreHolder 0 513 ∷ call.CoreHolder 0 514 ∷ call.CoreHolder 0 65794 ∷ call.Slack 513 ∷ [])
-    (all_loaded 1 1 ∷ free ∷ has 258 0 ∷ has 258 0 ∷ free ∷ has 258 1 ∷ slack (pos 65020) ∷ [])
+    -- numbers of more than one byte, as they are read and as they are written
+    ∷ calling (mesh 1 1 0) (call.Load wide_numbers
+    ∷ call.CoreHolder 0 257 ∷ call.CoreHolder 0 258 ∷ call.CoreHolder 0 513 ∷ call.CoreHolder 0 514 ∷ call.CoreHolder 0 65794 ∷ call.Slack 513 ∷ call.Write 36 ∷ [])
+    (all_loaded 1 1 ∷ free ∷ has 258 0 ∷ has 258 0 ∷ free ∷ has 258 1 ∷ slack (pos 65020) ∷ written wide_numbers ∷ [])
     -- 1: a section's count is cut off, or a record of it, after so many whole ones
     ∷ loading [] (layout.TasksShort 0)
     ∷ loading (take 1 (two_nodes 0)) (layout.TasksShort 0)
