@@ -16,7 +16,7 @@ use listed::{Listed, SetFault, read_section};
 use plan::Plan;
 use records::head::{FabricKind, Head, HeadFault, read_head};
 use records::record::{Link, Route};
-use refusals::line::write_line;
+use refusals::line::{LONGEST_LINE, write_line};
 use refusals::refusal::{BufferFault, Counts, Told};
 
 /// No plan file is longer, in bytes.
@@ -85,5 +85,9 @@ pub fn judge(file: &[u8], out: &mut [u8]) -> Result<usize, BufferFault>
     ensures long { TooLong file.now (verdict_of file.now) }
     ensures fabric { NoFabric file.now (verdict_of file.now) }
 {
+    // before the file is looked at, which may take long
+    if out.len() < LONGEST_LINE {
+        return Err(BufferFault);
+    }
     write_line(out, judge_file(file).map_err(Told::from))
 }
