@@ -9,9 +9,12 @@ use refusals::refusal::Refusal;
 use refusals::words::word;
 use std::alloc::{AllocError, Global};
 use std::io::{BufRead, BufReader, Write};
-use verdict::judge;
+use verdict::{LONGEST_FILE, judge};
 
 const BUFFER_ROOM: usize = 128;
+
+// One byte more than a plan file may have: a longer one is refused all the same.
+const MOST_READ: usize = LONGEST_FILE + 1;
 
 fn digit(b: u8) -> u8
     ensures { result < 16 }
@@ -19,11 +22,13 @@ fn digit(b: u8) -> u8
     char::from(b).to_digit(16).map_or(0, |d| d as u8)
 }
 
-// The bytes that the digits stand for, two digits to a byte; any other byte stands for 0, so that a table is never refused here.
+// The bytes that the digits stand for, two digits to a byte, as many as are read of a file; any other byte stands for 0, so that a
+// table is never refused here.
 fn decode(heap: Global, text: &[u8]) -> Result<Vec<u8>, AllocError> {
     let (pairs, _) = text.as_chunks::<2>();
     pairs
         .iter()
+        .take(MOST_READ)
         .map(|[high, low]| digit(*high) * 16 + digit(*low))
         .collect(heap)
 }
