@@ -113,9 +113,12 @@ module _ (w h : ℕ) where
   path_chain : (x y x' y' : ℕ) → x < w → y < h → x' < w → y' < h → Chain (grid_link w h) (node w x y) (grid_path w x y x' y') (node w x' y')
   path_chain x y x' y' inx iny inx' iny' = chain_append (grid_link w h) (node w x y) (node w x' y) (node w x' y') (across w x y x') (along w x' y y') (across_chain x y x' inx iny inx') (along_chain x' y y' inx' iny iny')
 
--- how long the walk along x and the path are
+-- how long the two walks and the path are
 pub across_length : (w x y x' : ℕ) → length (across w x y x') ≡ (x' - x) + (x - x')
 across_length w x y x' = simp (length-append, length-map-range_with_len)
+
+pub along_length : (w x y y' : ℕ) → length (along w x y y') ≡ (y' - y) + (y - y')
+along_length w x y y' = simp (length-append, length-map-range_with_len)
 
 pub path_length : (w x y x' y' : ℕ) → length (grid_path w x y x' y') ≡ ((x' - x) + (x - x')) + ((y' - y) + (y - y'))
 path_length w x y x' y' = simp (length-append, length-map-range_with_len)
