@@ -112,10 +112,12 @@ module _ (g : Setting) (fab : IsFabric g.network) where
   promise asks =
       let clean = held_keeps nothing asks (clean_nothing g) in
       let ordered = λ (list : List Ask). held_canonical nothing list nothing_canonical in
+      let back_held = round_trip g fab (held g nothing asks) clean (ordered asks) in
       record {
         clean = clean;
         calls = calls nothing (clean_nothing g) asks;
         canonical = ordered asks;
-        back = λ fits. round_trip g fab (held g nothing asks) clean (ordered asks) (held_short g nothing asks fits nothing_short);
+        back = λ fits. back_held (held_short g nothing asks fits nothing_short);
+        back_held = back_held;
         same = λ others members. (same_bytes (held g nothing asks) (held g nothing others) (ordered asks) (ordered others) members).1;
       }

@@ -86,8 +86,8 @@ EachCall = (g : Setting) → IsFabric g.network → (js : Jobs) → Clean g js �
 
 -- after the list the plan is clean, for all of time, its names ascend and its numbers are kept; each call of the list is answered as
 -- promised, with the jobs that the calls before it leave held, and leaves held what its answer says; the job part of what is held loads
--- back, where the names in the calls fit in two bytes and what they load are bytes; and lists that leave the same members held have the
--- same job part
+-- back, where the names in the calls fit in two bytes and what they load are bytes, or where the names held fit, whatever was refused or
+-- dropped; and lists that leave the same members held have the same job part
 pub record Promise (g : Setting) (asks : List Ask) : Type 0 where
   pub clean : Clean g (held g nothing asks)
   pub calls : (i : ℕ) (a : Ask) → slice_get asks i ≡ Some a
@@ -95,6 +95,7 @@ pub record Promise (g : Setting) (asks : List Ask) : Type 0 where
       × After g (held g nothing (take i asks)) a r (held g nothing (take (suc i) asks))
   pub canonical : Canonical (held g nothing asks)
   pub back : ((a : Ask) → In a asks → ShortAsk a) → LoadsBack g (held g nothing asks)
+  pub back_held : ShortNames (held g nothing asks) → LoadsBack g (held g nothing asks)
   pub same : (others : List Ask) → SameMembers (held g nothing asks) (held g nothing others) → part_bytes (held g nothing asks) ≡ part_bytes (held g nothing others)
 
 -- for every network that keeps the laws, and every list of calls
