@@ -162,13 +162,13 @@ stays_meet p q one other own held wait eo eh same least =
     (still_meets p q (span own) (span held) wait same (proper own) (proper held) least))
 
 -- a job still meets the held one of a name, by a stay of each
-pub job_meets : {X : Type 0} (label : X → ℕ) (takes : X → List Take) (held : List X) (own theirs : List Take) (job : X) (name : ℕ) (one other : Stay) (wait : Option ℕ)
-    → Some job ≡ named label name held → theirs ≡ takes job → Among own (Some one) → Among theirs (Some other)
+pub job_meets : {X : Type 0} (label : X → ℕ) (takes : X → List Take) (held : List X) (own : List Take) (job : X) (name : ℕ) (one other : Stay) (wait : Option ℕ)
+    → Some job ≡ named label name held → Among own (Some one) → Among (takes job) (Some other)
     → StillMeets (stay_take one) (stay_take other) wait → StillMet own (map (job_of label takes) held) wait
-job_meets label takes held own theirs job name one other wait e is (i, eo) (j, eh) still =
+job_meets label takes held own job name one other wait e (i, eo) (j, eh) still =
     let at = named_at label name held job e in
     still_met own (map (job_of label takes) held) at.0 i j (job_of label takes job) (stay_take one) (stay_take other) wait
-    (slice_get-map (job_of label takes) held at.0 ∙ ap (option_map (job_of label takes)) at.1) eo (subst (λ xs. slice_get xs j ≡ Some (stay_take other)) is eh) still
+    (slice_get-map (job_of label takes) held at.0 ∙ ap (option_map (job_of label takes)) at.1) eo eh still
 
 -- a later phase is the task put off
 task_later : (t : OpenTask) (v n : ℕ) → v + n ≤ latest → task_takes (task_at t (v + n)) ≡ map (put_off n) (task_takes (task_at t v))

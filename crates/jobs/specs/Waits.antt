@@ -1,10 +1,12 @@
 -- Working. A job that is put off: how long it still meets one that is held, and which delays are in time.
 use Rattle.std.specs.Prelude.{◌≡◌, ℕ, ◌<◌, ◌≤◌, Bool, false, List, is_none, map, ℤ, Some, None, Option}
-use Rattle.std.specs.Option.{option_map}
+use Rattle.std.specs.Option.{option_and_then, option_map}
 use Rattle.std.specs.List.{slice_get}
 use Rattle.holds.specs.Span.{later}
 use Rattle.fabric.specs.Network.{Network}
+use Rattle.jobs.specs.declared.place.Place.{Place}
 use Rattle.jobs.specs.declared.stay.Stay.{Stay}
+use Rattle.jobs.specs.Holding.{first_run, run_on}
 use Rattle.jobs.specs.Meetings.{HeldJob, first_met, met}
 use Rattle.jobs.specs.declared.open.OpenMessage.{OpenMessage}
 use Rattle.jobs.specs.Open.{message_at}
@@ -34,6 +36,10 @@ StillMet own held wait = Fails (λ n. is_none (first_met (map (put_off n) own) h
 abbrev pub Among : List Take → Option Stay → Type 0
 Among ts None = Unit {0}
 Among ts (Some s) = (i : ℕ) × (slice_get ts i ≡ Some (stay_take s))
+
+-- a place is had at each instant by the runs of one stay alone, and where there is none, by no run
+abbrev pub RunsBy : Place → List Take → Option Stay → Type 0
+RunsBy p ts o = (n : ℕ) → first_run p n ts ≡ option_and_then (λ s. run_on p n (stay_take s)) o
 
 -- the slack, where it is below 0, of a message with the delay v
 abbrev pub late_at : Network → Trip → OpenMessage → ℕ → Option ℤ

@@ -1,12 +1,10 @@
 -- Working. What stays and ways of the code stand for.
-use Rattle.std.specs.Prelude.{◌≡◌, ℕ, List, [], map, length, ℤ, Some, None, Option, MatchOption}
+use Rattle.std.specs.Prelude.{◌≡◌, ℕ, List, [], length, ℤ, Some, None, Option, MatchOption}
 use Rattle.std.specs.Option.{option_map}
 use Rattle.fabric.specs.Network.{Network, route_place}
 use Rattle.records.specs.declared.record.Task.{Task}
 use Rattle.records.specs.declared.record.Message.{Message}
 use Rattle.jobs.specs.declared.stay.Stay.{Stay}
-use Rattle.jobs.specs.declared.stay.Stays.{Stays}
-use Rattle.jobs.specs.declared.stay.Stays.TheVariants.{Core, Links}
 use Rattle.jobs.specs.declared.way.Way.{Way}
 use Rattle.holds.specs.Held.{span}
 use Rattle.jobs.specs.Slacks.{flow_slack}
@@ -18,11 +16,6 @@ use Rattle.jobs.specs.Trips.{Trip}
 -- what a stay takes
 abbrev pub stay_take : Stay → Take
 stay_take s = record { place = s.place; hold = option_map span s.hold }
-
--- what the stays of a job take
-abbrev pub taken : Stays → List Take
-taken (Core stay) = map stay_take stay
-taken (Links stays) = map stay_take stays.items
 
 -- what packets on a way take along a route, if there is one
 abbrev pub on_route : Network → Option (List ℕ) → (start period width : ℕ) → List Take

@@ -2,14 +2,15 @@
 ghost use Rattle.jobs.specs.Jobs.{created_on};
 ghost use Rattle.jobs.specs.Meetings.{earliest_from, meetings};
 ghost use Rattle.jobs.specs.Takes.{Take, message_takes, task_takes};
-ghost use Rattle.jobs.specs.Ways.{stay_take, taken};
+ghost use Rattle.jobs.specs.Waits.{Among, RunsBy};
+ghost use Rattle.jobs.specs.Ways.{stay_take};
 ghost use Rattle.std.specs.Prelude.{◌≡◌, List, map};
 
 use crate::meeting::{Meeting, nearest_to};
+use crate::place::Place;
 use crate::routing::Routing;
-use crate::stay::{Stay, Stays};
+use crate::stay::Stay;
 use crate::task::stay_of;
-use arrayvec::ArrayVec;
 use fabric::Fabric;
 use records::named::Named;
 use records::record::{Message, Task};
@@ -19,8 +20,11 @@ pub(crate) trait Held<B>: Named + Copy {
     // what a job takes
     ghost takes: { B → Self → List Take };
 
-    fn stays(&self, routing: &B) -> Stays
-        ensures { taken result ≡ takes routing.now self.now };
+    // The job's stay at a place, by which alone it has the place, if there is one. No list is made of what the job takes, since a question
+    // asks this of each held job.
+    fn stay_there(&self, routing: &B, place: Place) -> Option<Stay>
+        ensures among { Among (takes routing.now self.now) result }
+        ensures runs { RunsBy place (takes routing.now self.now) result };
 
     // The earlier of `best` and the meetings of an offered job's stays with this job. It goes over what the job takes and makes no
     // list of it, since each offer asks this of each held job.
@@ -31,8 +35,13 @@ pub(crate) trait Held<B>: Named + Copy {
 impl Held<()> for Task {
     ghost takes = { λ _ t. task_takes t };
 
-    fn stays(&self, _routing: &()) -> Stays {
-        Stays::Core([stay_of(self)])
+    #[inline(always)]
+    fn stay_there(&self, _routing: &(), place: Place) -> Option<Stay> {
+        let stay = stay_of(self);
+        if !place.is(stay.place) {
+            return None;
+        }
+        Some(stay)
     }
 
     fn nearest(&self, _routing: &(), best: Option<Meeting>, own: &[Stay]) -> Option<Meeting> {
@@ -43,12 +52,10 @@ impl Held<()> for Task {
 impl<'a, F: Fabric> Held<Routing<'a, F>> for Message {
     ghost takes = { λ b m. message_takes (created_on (F.meaning b.fabric.now)) b.tasks.now m };
 
-    fn stays(&self, routing: &Routing<'a, F>) -> Stays {
-        Stays::Links(
-            routing
-                .way_of(self)
-                .map_or_else(ArrayVec::new, |way| way.stays(routing.fabric)),
-        )
+    #[inline(always)]
+    fn stay_there(&self, routing: &Routing<'a, F>, place: Place) -> Option<Stay> {
+        let way = routing.way_of(self)?;
+        way.stay_there(routing.fabric, place)
     }
 
     fn nearest(

@@ -23,20 +23,12 @@ fn run_there(place: Place, instant: u64, stay: &Stay) -> Option<u64>
     run_at(stay.hold?, instant)
 }
 
-// The first run of some stays that has it.
-fn run_among(place: Place, instant: u64, stays: &[Stay]) -> Option<u64>
-    ensures { result ≡ first_run place instant (map stay_take stays.now) }
-{
-    stays
-        .iter()
-        .find_map(|stay| run_there(place, instant, stay))
-}
-
 // The name of a held job, and its run that has a place at an instant.
 fn held_run<B, J: Held<B>>(routing: &B, job: &J, place: Place, instant: u64) -> Option<(u16, u64)>
     ensures { result ≡ with_name (J.Named.label job.now) (first_run place instant (J.Held.takes routing.now job.now)) }
 {
-    let run = run_among(place, instant, job.stays(routing).as_slice())?;
+    let stay = job.stay_there(routing, place)?;
+    let run = run_there(place, instant, &stay)?;
     Some((job.name(), run))
 }
 

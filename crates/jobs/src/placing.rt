@@ -53,7 +53,7 @@ fn wait_past<B, J: Held<B>>(routing: &B, held: &[J], own: &[Stay], meeting: &Mee
     let Some(one) = stay_at(own, meeting.place) else {
         return Some(0);
     };
-    let Some(other) = stay_at(job.stays(routing).as_slice(), meeting.place) else {
+    let Some(other) = job.stay_there(routing, meeting.place) else {
         return Some(0);
     };
     stay_wait(&one, &other)

@@ -38,6 +38,7 @@ pub struct Admitted {
 impl Way {
     ghost use Rattle.jobs.specs.Meetings.{earliest_from, meetings};
     ghost use Rattle.jobs.specs.Routings.{WayBetween};
+    ghost use Rattle.jobs.specs.Waits.{Among, RunsBy};
     ghost use Rattle.jobs.specs.Ways.{StayAt, stay_take, way_takes};
     ghost use Rattle.std.specs.Prelude.{◌≡◌, map};
 
@@ -112,5 +113,24 @@ impl Way {
             start += fabric.hop_delay() as u64;
         }
         best
+    }
+
+    // The stay of packets on this way at a place, if there is one: no link stands twice on a route.
+    #[inline(always)]
+    pub(crate) fn stay_there<F: Fabric>(&self, fabric: &F, place: Place) -> Option<Stay>
+        ensures among { Among (way_takes (F.meaning fabric.now) self.now) result }
+        ensures runs { RunsBy place (way_takes (F.meaning fabric.now) self.now) result }
+    {
+        let longest = F::reach();
+        let mut start = self.start;
+        // a loop for the same reason
+        for link in 0..longest {
+            let stay = self.stay_on(fabric, link, start)?;
+            if place.is(stay.place) {
+                return Some(stay);
+            }
+            start += fabric.hop_delay() as u64;
+        }
+        None
     }
 }

@@ -1,4 +1,4 @@
-use Rattle.std.proofs.Common.{map, ◌∙◌}
+use Rattle.std.proofs.Common.{map}
 use Rattle.jobs.specs.Ways.{stay_take}
 use Rattle.jobs.proofs.Waits.{job_meets}
 use Rattle.jobs.proofs.placing.wait_past.Goals as goal
@@ -6,6 +6,6 @@ use Rattle.jobs.proofs.placing.wait_past.Goals as goal
 pub returns : goal.returns
 returns g c =
     let takes = g.J.Held.takes c.args.routing.now in
-    job_meets g.J.Named.label takes c.args.held.now (map stay_take c.args.own.now) (map stay_take c.as_slice.result.now) c.in-Some.job c.args.meeting.now.held
-    c.in-Some-stay_at.one c.in-Some-stay_at-2.other c.stay_wait.result c.in-Some.ensures (c.as_slice.ensures ∙ c.stays.ensures)
-    c.in-Some-stay_at.ensures c.in-Some-stay_at-2.ensures c.stay_wait.ensures
+    job_meets g.J.Named.label takes c.args.held.now (map stay_take c.args.own.now) c.in-Some.job c.args.meeting.now.held
+    c.in-Some-stay_at.one c.in-Some-stay_there.other c.stay_wait.result c.in-Some.ensures
+    c.in-Some-stay_at.ensures c.in-Some-stay_there.ensures.among c.stay_wait.ensures
