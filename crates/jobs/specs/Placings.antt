@@ -3,7 +3,9 @@ use Rattle.std.specs.Prelude.{ℕ, ◌+◌, ◌-◌, List, is_none, map, Some, N
 use Rattle.holds.specs.Search.{first_from}
 use Rattle.records.specs.declared.record.Task.{Task}
 use Rattle.jobs.specs.declared.fault.TaskFault.{TaskFault}
+use Rattle.records.specs.declared.record.Message.{Message}
 use Rattle.jobs.specs.declared.fault.MessageFault.{MessageFault}
+use Rattle.jobs.specs.declared.fault.MessageFault.TheVariants as message_fault
 use Rattle.jobs.specs.declared.fault.PlacingFault.{PlacingFault}
 use Rattle.jobs.specs.declared.fault.PlacingFault.TheVariants as placing
 use Rattle.jobs.specs.declared.open.OpenTask.{OpenTask}
@@ -45,6 +47,15 @@ delays (Some s) = s.period
 -- the smallest delay whose offer would be taken
 abbrev pub first_delay : Setting → Jobs → OpenMessage → Option ℕ
 first_delay g js m = first_from (λ v. is_none (message_refusal g js (message_at m v))) (delays (task_named js.tasks m.source)) 0
+
+-- what refuses a message between two tasks past the earlier checks: without a route it cannot go
+abbrev pub on_way : Setting → Jobs → Message → Task → Task → Option (List ℕ) → Option MessageFault
+on_way g js m s d None = Some message_fault.NoRoute
+on_way g js m s d (Some r) = packet_refusal g js m (record { source = s; destination = d; route = r })
+
+-- the smallest delay at which a message between two tasks has a route, and is neither late nor meets one of those held
+abbrev pub first_delay_between : Setting → Jobs → OpenMessage → Task → Task → Option ℕ
+first_delay_between g js m s d = first_from (λ v. is_none (on_way g js (message_at m v) s d (g.network.route s.core d.core))) s.period 0
 
 -- the smallest delay at which a message on its trip is neither late nor meets one of those held
 abbrev pub first_free_delay : Setting → Jobs → OpenMessage → Trip → Option ℕ

@@ -4,8 +4,8 @@
 //! for a phase and for a delay stand each by itself: a closure that tries a value would have to hand back its job, its way and
 //! its meeting. Which delays are in time is known before the search.
 ghost use Rattle.std.specs.Prelude.{◌≡◌, map};
-ghost use Rattle.jobs.specs.Placings.{first_free_phase};
-ghost use Rattle.jobs.specs.Routings.{FindsDelay, job_of};
+ghost use Rattle.jobs.specs.Placings.{first_delay_between, first_free_phase};
+ghost use Rattle.jobs.specs.Routings.{FindsDelay, job_of, setting_on};
 ghost use Rattle.jobs.specs.Waits.{Among, StillMeets, StillMet};
 ghost use Rattle.jobs.specs.Ways.{stay_take};
 
@@ -14,7 +14,7 @@ use crate::meeting::{Meeting, first_among};
 use crate::message::delays_in_time;
 use crate::open::{OpenMessage, OpenTask};
 use crate::place::Place;
-use crate::routing::Routing;
+use crate::routing::{Ends, Routing};
 use crate::stay::Stay;
 use crate::task::{first_task_meeting, stay_of};
 use crate::way::{Admitted, Way};
@@ -97,5 +97,13 @@ impl<'a, F: Fabric> Routing<'a, F> {
             delay = delay.checked_add(wait.max(1))?;
         }
         None
+    }
+
+    /// The smallest delay at which a message between two tasks has a route, and is neither late nor meets a held one.
+    pub fn first_delay_between(&self, held: &[Message], ends: &Ends, m: &OpenMessage) -> Option<u32>
+        ensures { result ≡ first_delay_between (setting_on F.meaning self.now) (record { tasks = self.now.tasks.now; messages = held.now }) m.now ends.now.source ends.now.destination }
+    {
+        let way = Way::of(self.fabric, ends, &m.at(0))?;
+        self.first_delay(held, &Admitted { ends: *ends, way }, m)
     }
 }
