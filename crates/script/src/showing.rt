@@ -4,7 +4,7 @@ ghost use Rattle.script.specs.Lines.{hex};
 ghost use Rattle.script.specs.Replies.{ToldAsVerdicts, answer_text, reply_text};
 ghost use Rattle.script.specs.Transcripts.{answered, line_printed};
 ghost use Rattle.std.specs.Option.{option_map};
-ghost use Rattle.std.specs.Prelude.{◌≡◌, ◌++◌, vec_items, Some, IfOk, OnErr, OnOk};
+ghost use Rattle.std.specs.Prelude.{◌≡◌, ◌++◌, length, take, vec_items, Some, IfOk, OnErr, OnOk};
 
 use crate::reply::Reply;
 use refusals::refusal::{Refusal, Told};
@@ -84,6 +84,18 @@ pub fn show(heap: Global, reply: &Reply) -> Result<Vec<u8>, AllocError>
     Ok(format!(in heap; "{reply}")?.into_bytes())
 }
 
+// Adds a line of text with its reply; where there is no memory for it, its front may have been added.
+fn add_line(heap: Global, out: &mut Vec<u8>, text: &[u8], reply: &Reply) -> Result<(), AllocError>
+    ensures added { OnOk result (out.new.items ≡ out.old.items ++ answered text.now (reply_text reply.now)) }
+    ensures kept { take (length out.old.items) out.new.items ≡ out.old.items }
+{
+    out.extend_from_slice(text)?;
+    out.extend_from_slice(b": ")?;
+    out.extend_from_slice(&show(heap, reply)?)?;
+    out.push(b'\n')?;
+    Ok(())
+}
+
 /// Adds a line of text with its reply, or nothing where there is no memory for it.
 pub fn tell_line(
     heap: Global,
@@ -94,11 +106,12 @@ pub fn tell_line(
     ensures added { OnOk result (out.new.items ≡ out.old.items ++ answered text.now (reply_text reply.now)) }
     ensures failed { OnErr result (out.new.items ≡ out.old.items) }
 {
-    let mut line = text.to_vec(heap)?;
-    line.extend_from_slice(b": ")?;
-    line.extend_from_slice(&show(heap, reply)?)?;
-    line.push(b'\n')?;
-    out.extend_from_slice(&line)
+    let start = out.len();
+    let told = add_line(heap, out, text, reply);
+    if told.is_err() {
+        out.truncate(start);
+    }
+    told
 }
 
 // Adds a line with its reply, if it has one.
