@@ -2,3 +2,4 @@ mod Texts
 mod ReadBack
 mod Hexes
 mod Printed
+mod Calls

@@ -3,6 +3,7 @@
 --   reading         what a line that was read says
 --   read_call    the lines that are words and numbers, by their first words
 --   read_line    every line
+--   asks         the calls among what lines say
 use Rattle.std.specs.Prelude.{ℕ, cond, List, [], ◌∷◌, None, vec_items, codes, Option, ◌==◌}
 use Rattle.std.specs.Option.{option_map, option_map_or}
 use Rattle.replay.specs.Calls.{Ask, asked}
@@ -74,3 +75,12 @@ read_text text =
 abbrev pub read_line : List ℕ → Reading
 read_line [] = blank
 read_line (b ∷ bs) = cond (b == 35) blank (read_text (b ∷ bs))
+
+-- the calls among what lines say, in their order
+abbrev pub asks : List Reading → List Ask
+asks [] = []
+asks (calling a ∷ rest) = a ∷ asks rest
+asks (blank ∷ rest) = asks rest
+asks (unread ∷ rest) = asks rest
+asks (mesh_fabric x y delay ∷ rest) = asks rest
+asks (listed_fabric file ∷ rest) = asks rest

@@ -7,7 +7,7 @@ mod forms;
 pub mod line;
 pub mod reading;
 pub mod reply;
-mod running;
+pub mod running;
 pub mod showing;
 #[cfg(test)]
 mod tests;

@@ -1,8 +1,9 @@
-//! Running the lines of a script, each on the plan in hand.
+//! Running the lines of a script, each on the plan in hand, and the calls among lines as one list.
+ghost use Rattle.jobs.specs.Jobs.{created_on, nothing};
 ghost use Rattle.plan.specs.Held.{SameSetting, jobs, setting};
-ghost use Rattle.replay.specs.Calls.{ask, asked};
+ghost use Rattle.replay.specs.Calls.{all_said, answers, ask, asked};
 ghost use Rattle.script.specs.Fabrics.{made_network};
-ghost use Rattle.script.specs.Readings.{read_line, reading};
+ghost use Rattle.script.specs.Readings.{asks, read_line, reading};
 ghost use Rattle.script.specs.Replies.{answer_text, reply_text};
 ghost use Rattle.script.specs.Running.{Onward, Printed, next_session, session, texts_of};
 ghost use Rattle.script.specs.Transcripts.{after_line, begun, printed, reply_to};
@@ -16,8 +17,8 @@ use crate::showing::tell;
 use fabric::Fabric;
 use plan::Plan;
 use plan::plan::LONGEST_PART;
-use replay::calls::Call;
-use replay::{owned, step};
+use replay::calls::{Answer, Call};
+use replay::{owned, replay, step};
 use std::alloc::{AllocError, Global};
 
 // What a call on the plan is answered.
@@ -62,9 +63,9 @@ fn reply_of<'l, F: Fabric>(
     })
 }
 
-/// Runs the lines from a place on, each with its text, on a new plan over a fabric, and adds each to `out` with what it is answered; up to
-/// the first that makes another fabric. Answers that fabric and the place after its line, or nothing after the last line.
-pub(crate) fn run_lines<'l, F: Fabric>(
+// Runs the lines from a place on, each with its text, on a new plan over a fabric, and adds each to `out` with what it is answered; up to
+// the first that makes another fabric. Answers that fabric and the place after its line, or nothing after the last line.
+fn run_on<'l, F: Fabric>(
     heap: Global,
     out: &mut Vec<u8>,
     fabric: &F,
@@ -102,8 +103,8 @@ fn run_made<'l>(
     ensures onward { IfOk result (Onward from (length lines.now)) }
 {
     match made {
-        Made::Mesh(mesh) => run_lines(heap, out, mesh, texts, lines, from),
-        Made::Listed(listed) => run_lines(heap, out, listed, texts, lines, from),
+        Made::Mesh(mesh) => run_on(heap, out, mesh, texts, lines, from),
+        Made::Listed(listed) => run_on(heap, out, listed, texts, lines, from),
     }
 }
 
@@ -118,9 +119,37 @@ pub(crate) fn run_all<F: Fabric>(
     ensures { IfOk result (λ v. v.items ≡ printed (begun (F.meaning fabric.now)) (texts_of texts.now)) }
 {
     let mut out = Vec::new(heap);
-    let mut next = run_lines(heap, &mut out, fabric, texts, lines, 0)?;
+    let mut next = run_on(heap, &mut out, fabric, texts, lines, 0)?;
     while let Some((made, from)) = next {
         next = run_made(heap, &mut out, &made, texts, lines, from)?;
     }
     Ok(out)
+}
+
+// The calls among lines, in their order.
+fn calls_of(heap: Global, lines: &[Line]) -> Result<Vec<Call<&[u8]>>, AllocError>
+    ensures { IfOk result (λ v. map asked v.items ≡ asks (map reading lines.now)) }
+{
+    let mut calls: Vec<Call<&[u8]>> = Vec::new(heap);
+    for line in lines {
+        match line {
+            Line::Load(part) => calls.push(Call::Load(part))?,
+            Line::Plain(call) => calls.push(*call)?,
+            _ => {}
+        }
+    }
+    Ok(calls)
+}
+
+/// What the calls among lines answer on a new plan over the fabric; lines that are no call are passed over.
+pub fn run_lines<F: Fabric>(
+    heap: Global,
+    fabric: &F,
+    lines: &[Line],
+) -> Result<Vec<Answer<Vec<u8>>>, AllocError>
+    ensures { IfOk result (λ v. all_said v.items ≡ answers (created_on (F.meaning fabric.now)) nothing (asks (map reading lines.now))) }
+{
+    let calls = calls_of(heap, lines)?;
+    let (_, answers) = replay(heap, fabric, &calls);
+    answers
 }

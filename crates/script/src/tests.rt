@@ -1,9 +1,11 @@
 use crate::line::Line;
 use crate::reading::read_lines;
 use crate::reply::Reply;
+use crate::running::run_lines;
 use crate::showing::tell_line;
 use crate::transcript::transcript;
-use replay::calls::Call;
+use listed::Listed;
+use replay::calls::{Answer, Call};
 use std::alloc::AllocError;
 
 #[test]
@@ -15,6 +17,24 @@ fn lines_read(rt: HostRuntime) -> Result<(), AllocError> {
     assert!(rt; matches!(lines[1], Line::Plain(Call::Slack(7))));
     assert!(rt; matches!(lines[2], Line::Unread));
     assert!(rt; matches!(lines[3], Line::Blank));
+    Ok(())
+}
+
+// Lines that are no call are passed over, a fabric too.
+#[test]
+fn lines_run(rt: HostRuntime) -> Result<(), AllocError> {
+    let texts = [
+        b"offer task 1 0 4 0 1".as_slice(),
+        b"slack",
+        b"fabric mesh 2 1 3",
+        b"",
+        b"holder core 0 4",
+    ];
+    let lines = read_lines(rt.alloc(), &texts)?;
+    let answers = run_lines(rt.alloc(), &Listed::new(), &lines)?;
+    assert_eq!(rt; answers.len(), 2);
+    assert!(rt; matches!(answers[0], Answer::TaskOffered(Ok(()))));
+    assert!(rt; matches!(answers[1], Answer::Holder(Ok(Some((1, 1))))));
     Ok(())
 }
 

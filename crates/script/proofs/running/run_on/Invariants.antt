@@ -1,7 +1,7 @@
 use Rattle.std.proofs.Common.{◌≡◌, ◌++◌, drop, vec_items}
 use Rattle.script.specs.Running.{session, texts_of}
 use Rattle.script.specs.Transcripts.{begun, printed}
-use Rattle.script.proofs.running.run_lines.Given as goal
+use Rattle.script.proofs.running.run_on.Given as goal
 
 -- what is printed so far, and what the lines that are left print on the plan in hand, make the whole
 abbrev pub invariant-loop-at : goal.invariant-loop-at

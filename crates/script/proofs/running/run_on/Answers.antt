@@ -3,7 +3,7 @@ use Rattle.std.specs.Option.{option_map}
 use Rattle.script.specs.Replies.{reply_text}
 use Rattle.script.specs.Running.{next_session, session}
 use Rattle.script.proofs.Printed.{line_more, none_of}
-use Rattle.script.proofs.running.run_lines.Goals as goal
+use Rattle.script.proofs.running.run_on.Goals as goal
 
 pub returns-in-Some-clause-told : goal.returns-in-Some-clause-told
 returns-in-Some-clause-told g c =
