@@ -3,3 +3,4 @@ mod ReadBack
 mod Hexes
 mod Printed
 mod Calls
+mod Stretches

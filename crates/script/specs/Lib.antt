@@ -6,3 +6,4 @@ pub mod Replies
 pub mod Fabrics
 pub mod Transcripts
 pub mod Running
+pub mod Stretches

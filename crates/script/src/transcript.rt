@@ -1,5 +1,7 @@
 //! A whole script: its lines, the plans that fabric lines begin, and each line with what it is answered.
+ghost use Rattle.fabric.specs.Network.{IsFabric};
 ghost use Rattle.listed.specs.Description.{alone, network};
+ghost use Rattle.script.specs.Stretches.{FabricsBegin, NewStretches, StretchesAsLists, TextsSplit};
 ghost use Rattle.script.specs.Transcripts.{transcript_text};
 ghost use Rattle.std.specs.List.{slice_split};
 ghost use Rattle.std.specs.Prelude.{◌≡◌, ◌==◌, map, IfOk};
@@ -36,3 +38,13 @@ pub fn transcript(heap: Global, script: &[u8]) -> Result<Vec<u8>, AllocError>
 {
     transcript_over(heap, &Listed::new(), script)
 }
+
+/// The lines between two that make a fabric do what the list of the calls among them does, on a plan that is new at the first of these
+/// lines: so what is promised of every list of calls is promised of them.
+pub fn stretches_stand()
+    ensures lists { StretchesAsLists }
+    ensures promise { NewStretches }
+    ensures begins { FabricsBegin }
+    ensures alone { IsFabric (network alone) }
+    ensures splits { TextsSplit }
+{}
