@@ -80,7 +80,12 @@ fn run_on<'l, F: Fabric>(
     let mut plan = Plan::new(fabric);
     let mut page = [0; LONGEST_PART];
     for at in from..lines.len() {
-        let (reply, made) = reply_of(heap, &mut plan, &mut page, &lines[at])?;
+        let line = &lines[at];
+        // passed over at once: to carry no reply and no fabric up takes as long as to read the line
+        if let Line::Blank = line {
+            continue;
+        }
+        let (reply, made) = reply_of(heap, &mut plan, &mut page, line)?;
         tell(heap, out, texts[at], reply)?;
         if let Some(made) = made {
             return Ok(Some((made, at + 1)));
