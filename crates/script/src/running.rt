@@ -13,7 +13,7 @@ ghost use Rattle.std.specs.Prelude.{◌≡◌, length, map, IfOk};
 use crate::fabrics::{Made, listed_reply, mesh_reply};
 use crate::line::Line;
 use crate::reply::Reply;
-use crate::showing::tell;
+use crate::showing::{tell, tell_line};
 use fabric::Fabric;
 use plan::Plan;
 use plan::plan::LONGEST_PART;
@@ -81,9 +81,14 @@ fn run_on<'l, F: Fabric>(
     let mut page = [0; LONGEST_PART];
     for at in from..lines.len() {
         let line = &lines[at];
-        // passed over at once: to carry no reply and no fabric up takes as long as to read the line
-        if let Line::Blank = line {
-            continue;
+        // these two at once: to carry up that no fabric is made takes as long as to read the line
+        match line {
+            Line::Blank => continue,
+            Line::Unread => {
+                tell_line(heap, out, texts[at], &Reply::Unread)?;
+                continue;
+            }
+            _ => {}
         }
         let (reply, made) = reply_of(heap, &mut plan, &mut page, line)?;
         tell(heap, out, texts[at], reply)?;
