@@ -54,18 +54,26 @@ fn meeting_at(name: u16, own: &Stay, held: &Stay) -> Option<Meeting>
     })
 }
 
-// The earlier of two meetings, if there is one. Inlined, and by the second first: most stays meet nothing, and then the first stays where it is.
-#[inline(always)]
+// The earlier of two meetings, if there is one.
 fn earlier(one: Option<Meeting>, other: Option<Meeting>) -> Option<Meeting>
     ensures { result ≡ sooner one other }
 {
-    let Some(b) = other else {
-        return one;
-    };
-    match one {
-        Some(a) if !b.comes_before(&a) => one,
-        _ => other,
+    match (one, other) {
+        (Some(a), Some(b)) => Some(if b.comes_before(&a) { b } else { a }),
+        _ => one.or(other),
     }
+}
+
+// The earlier of `best` and the meeting of an offered job's stay with that of the held job of this name. Most stays are at two places, and
+// then `best` stays where it is.
+#[inline(always)]
+fn nearer(best: Option<Meeting>, name: u16, own: &Stay, held: &Stay) -> Option<Meeting>
+    ensures { result ≡ sooner best (met name (stay_take own.now) (stay_take held.now)) }
+{
+    if !own.place.is(held.place) {
+        return best;
+    }
+    earlier(best, meeting_at(name, own, held))
 }
 
 // The earlier of `best` and the meetings of an offered job's stays with one stay of the held job of this name.
@@ -81,7 +89,7 @@ pub(crate) fn nearest_to(
     let mut best = best;
     // a loop, since a `fold` is not inlined
     for stay in own {
-        best = earlier(best, meeting_at(name, stay, held));
+        best = nearer(best, name, stay, held);
     }
     best
 }

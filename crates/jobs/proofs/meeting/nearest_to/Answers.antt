@@ -15,6 +15,6 @@ loop-stay-preserved c =
     let best = c.loop-stay.best in
     let left : List Stay → Option Meeting = λ ss. earliest_from best (map meets (map stay_take ss)) in
     ap (λ b. earliest_from b (map meets (map stay_take (drop (i + 1) own))))
-    (c.earlier-best.ensures ∙ ap (sooner best) c.meeting_at.ensures ∙ ap (λ s. sooner best (meets (stay_take s))) c.stay-item.is)
+    (c.nearer-best.ensures ∙ ap (λ s. sooner best (meets (stay_take s))) c.stay-item.is)
     ∙ sym (at_drop_more left own i c.stay-item.result (search rules))
     ∙ c.loop-stay.invariant
