@@ -2,14 +2,15 @@
 use Rattle.std.specs.Prelude.{ℕ, ◌+◌, ◌-◌, List, is_none, map, Some, None, Ok, Err, Option, Result}
 use Rattle.holds.specs.Search.{first_from}
 use Rattle.records.specs.declared.record.Task.{Task}
-use Rattle.jobs.specs.declared.fault.TaskFault.{TaskFault}
 use Rattle.records.specs.declared.record.Message.{Message}
+use Rattle.jobs.specs.declared.fault.TaskFault.{TaskFault}
 use Rattle.jobs.specs.declared.fault.MessageFault.{MessageFault}
 use Rattle.jobs.specs.declared.fault.MessageFault.TheVariants as message_fault
 use Rattle.jobs.specs.declared.fault.PlacingFault.{PlacingFault}
 use Rattle.jobs.specs.declared.fault.PlacingFault.TheVariants as placing
 use Rattle.jobs.specs.declared.open.OpenTask.{OpenTask}
 use Rattle.jobs.specs.declared.open.OpenMessage.{OpenMessage}
+use Rattle.jobs.specs.declared.routing.Ends.{Ends}
 use Rattle.jobs.specs.Checks.{admitted_message, admitted_task}
 use Rattle.jobs.specs.Jobs.{Setting, Jobs, task_named, with_task, with_message}
 use Rattle.jobs.specs.Open.{task_at, message_at}
@@ -54,8 +55,9 @@ on_way g js m s d None = Some message_fault.NoRoute
 on_way g js m s d (Some r) = packet_refusal g js m (record { source = s; destination = d; route = r })
 
 -- the smallest delay at which a message between two tasks has a route, and is neither late nor meets one of those held
-abbrev pub first_delay_between : Setting → Jobs → OpenMessage → Task → Task → Option ℕ
-first_delay_between g js m s d = first_from (λ v. is_none (on_way g js (message_at m v) s d (g.network.route s.core d.core))) s.period 0
+abbrev pub first_delay_between : Setting → Jobs → OpenMessage → Ends → Option ℕ
+first_delay_between g js m e =
+    first_from (λ v. is_none (on_way g js (message_at m v) e.source e.destination (g.network.route e.source.core e.destination.core))) e.source.period 0
 
 -- the smallest delay at which a message on its trip is neither late nor meets one of those held
 abbrev pub first_free_delay : Setting → Jobs → OpenMessage → Trip → Option ℕ

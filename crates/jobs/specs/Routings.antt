@@ -8,7 +8,7 @@ use Rattle.jobs.specs.declared.open.OpenMessage.{OpenMessage}
 use Rattle.jobs.specs.declared.routing.Ends.{Ends}
 use Rattle.jobs.specs.declared.routing.Routing.{Routing}
 use Rattle.jobs.specs.declared.way.Way.{Way}
-use Rattle.jobs.specs.Jobs.{Setting, created_on, task_named}
+use Rattle.jobs.specs.Jobs.{Jobs, Setting, created_on, task_named}
 use Rattle.jobs.specs.Meetings.{HeldJob, held_message}
 use Rattle.jobs.specs.Open.{message_at}
 use Rattle.jobs.specs.Placings.{first_free_delay}
@@ -35,6 +35,9 @@ trip_along e r = record { source = e.source; destination = e.destination; route 
 abbrev pub setting_on : {F : Type 0} → (F → Network) → Routing F → Setting
 setting_on meaning r = created_on (meaning r.fabric.now)
 
+abbrev pub jobs_beside : {F : Type 0} → Routing F → List Message → Jobs
+jobs_beside r ms = record { tasks = r.tasks.now; messages = ms }
+
 abbrev pub held_beside : {F : Type 0} → (F → Network) → Routing F → List Message → List HeldJob
 held_beside meaning r ms = map (held_message (setting_on meaning r) r.tasks.now) ms
 
@@ -52,7 +55,7 @@ pub record IsAdmitted (net : Network) (t : Trip) (m : Message) (a : Admitted) : 
 abbrev pub FindsDelay : {F : Type 0} → (F → Network) → Routing F → List Message → Admitted → OpenMessage → Option ℕ → Type 0
 FindsDelay meaning r ms a m found =
     (t : Trip) → IsAdmitted (meaning r.fabric.now) t (message_at m 0) a
-    → found ≡ first_free_delay (setting_on meaning r) (record { tasks = r.tasks.now; messages = ms }) m t
+    → found ≡ first_free_delay (setting_on meaning r) (jobs_beside r ms) m t
 
 -- a held job, by its name and what it takes
 abbrev pub job_of : {X : Type 0} → (X → ℕ) → (X → List Take) → X → HeldJob

@@ -20,8 +20,8 @@ pub(crate) trait Held<B>: Named + Copy {
     // what a job takes
     ghost takes: { B → Self → List Take };
 
-    // The job's stay at a place, by which alone it has the place, if there is one. No list is made of what the job takes, since a question
-    // asks this of each held job.
+    // A stay of the job, by whose runs alone it has the place; none where no run of it has. No list is made of what the job takes, since a
+    // question asks this of each held job.
     fn stay_there(&self, routing: &B, place: Place) -> Option<Stay>
         ensures among { Among (takes routing.now self.now) result }
         ensures runs { RunsBy place (takes routing.now self.now) result };

@@ -5,7 +5,7 @@
 //! its meeting. Which delays are in time is known before the search.
 ghost use Rattle.std.specs.Prelude.{◌≡◌, map};
 ghost use Rattle.jobs.specs.Placings.{first_delay_between, first_free_phase};
-ghost use Rattle.jobs.specs.Routings.{FindsDelay, job_of, setting_on};
+ghost use Rattle.jobs.specs.Routings.{FindsDelay, job_of, jobs_beside, setting_on};
 ghost use Rattle.jobs.specs.Waits.{Among, StillMeets, StillMet};
 ghost use Rattle.jobs.specs.Ways.{stay_take};
 
@@ -101,7 +101,7 @@ impl<'a, F: Fabric> Routing<'a, F> {
 
     /// The smallest delay at which a message between two tasks has a route, and is neither late nor meets a held one.
     pub fn first_delay_between(&self, held: &[Message], ends: &Ends, m: &OpenMessage) -> Option<u32>
-        ensures { result ≡ first_delay_between (setting_on F.meaning self.now) (record { tasks = self.now.tasks.now; messages = held.now }) m.now ends.now.source ends.now.destination }
+        ensures { result ≡ first_delay_between (setting_on F.meaning self.now) (jobs_beside self.now held.now) m.now ends.now }
     {
         let way = Way::of(self.fabric, ends, &m.at(0))?;
         self.first_delay(held, &Admitted { ends: *ends, way }, m)
